@@ -1,7 +1,23 @@
 //! The value types that every other crate of the media server names: names and ids by their forms,
-//! and the faults that have no cause but want of memory.
+//! the entries of a journal, what a call comes to, and want of memory as a fault of its own.
 #![tactic(auto)]
 
+mod applied;
+mod bytes;
+mod entry;
 mod fault;
+mod id;
+mod keys;
+mod name;
+mod outcome;
+mod text;
 
+pub use applied::{Applied, ApplyFault, SlotLook};
+pub use bytes::Bytes;
+pub use entry::{Entry, Op};
 pub use fault::NoMemory;
+pub use id::Id;
+pub use keys::{CallKey, Kind, Serial, WorkerKey};
+pub use name::Name;
+pub use outcome::{Code, Outcome, Verdict, WorkerError};
+pub use text::Text;
