@@ -1,0 +1,5 @@
+pub mod Id
+pub mod IdRows
+pub mod Name
+pub mod NameRows
+pub mod Outcome

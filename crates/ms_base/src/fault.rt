@@ -1,3 +1,5 @@
+ghost use Rattle.std.specs.Prelude.{◌≡◌};
+
 use std::alloc::{AllocError, AllocFailed};
 use thiserror::Error;
 
@@ -7,12 +9,16 @@ use thiserror::Error;
 pub struct NoMemory;
 
 impl From<AllocError> for NoMemory {
+    ghost from_gives = { λ _ fault. fault ≡ record {} };
+
     fn from(_refused: AllocError) -> NoMemory {
         NoMemory
     }
 }
 
 impl<T: Drop> From<AllocFailed<T>> for NoMemory {
+    ghost from_gives = { λ _ fault. fault ≡ record {} };
+
     fn from(_refused: AllocFailed<T>) -> NoMemory {
         NoMemory
     }

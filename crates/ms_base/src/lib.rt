@@ -16,8 +16,11 @@ pub use applied::{Applied, ApplyFault, SlotLook};
 pub use bytes::Bytes;
 pub use entry::{Entry, Op};
 pub use fault::NoMemory;
-pub use id::Id;
+pub use id::{Id, IdFault, ids_differ};
 pub use keys::{CallKey, Kind, Serial, WorkerKey};
-pub use name::Name;
+pub use name::{Name, NameFault};
 pub use outcome::{Code, Outcome, Verdict, WorkerError};
 pub use text::Text;
+
+#[cfg(test)]
+mod tests;

@@ -1,3 +1,5 @@
+ghost use Rattle.std.specs.Prelude.{◌≡◌};
+
 use crate::text::Text;
 
 /// What is wrong with a line of a journal, or with what a call is given.
@@ -37,7 +39,7 @@ pub enum WorkerError {
 }
 
 /// What a call has come to.
-#[derive(Debug, Drop)]
+#[derive(Debug, Drop, PartialEq, Eq)]
 pub enum Outcome {
     /// It is done.
     Done,
@@ -68,4 +70,24 @@ pub enum Verdict {
     TypeError { code: Code },
     IdsSpent,
     Worker { error: WorkerError },
+}
+
+impl Outcome {
+    ghost use Rattle.ms_base.specs.Outcome.{verdict_of_outcome};
+
+    /// The outcome without its texts.
+    pub fn verdict(&self) -> Verdict
+        ensures { result ≡ verdict_of_outcome self.now }
+    {
+        match self {
+            Outcome::Done => Verdict::Done,
+            Outcome::NameTaken => Verdict::NameTaken,
+            Outcome::NoName => Verdict::NoName,
+            Outcome::WrongKind => Verdict::WrongKind,
+            Outcome::InvalidState => Verdict::InvalidState,
+            Outcome::TypeError { code } => Verdict::TypeError { code: *code },
+            Outcome::IdsSpent => Verdict::IdsSpent,
+            Outcome::Worker { error, reason: _ } => Verdict::Worker { error: *error },
+        }
+    }
 }

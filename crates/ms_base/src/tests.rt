@@ -1,0 +1,82 @@
+use crate::{
+    Bytes, Entry, Id, IdFault, Name, NameFault, Op, Outcome, Text, Verdict, WorkerError, WorkerKey,
+};
+use std::test::Fail;
+
+#[test]
+fn ids_and_their_texts(rt: HostRuntime) {
+    let id = Id::of(7, 1);
+    assert_eq!(rt;
+        id.text().as_slice(),
+        b"00000000-0000-4007-8000-000000000001".as_slice()
+    );
+    for (text, want) in [
+        (b"00000000-0000-4007-8000-000000000001".as_slice(), Ok(id)),
+        (b"00000000000040078000000000000001", Err(IdFault::BadId)),
+        (
+            b"{00000000-0000-4007-8000-000000000001}",
+            Err(IdFault::BadId),
+        ),
+        (b"00000000-0000-4007-8000_000000000001", Err(IdFault::BadId)),
+        (
+            b"00000000-0000-4007-8000-0000000000\xc3\xa9",
+            Err(IdFault::BadId),
+        ),
+        (b"", Err(IdFault::BadId)),
+    ] {
+        assert!(rt; Id::read(text) == want);
+    }
+    let upper = Id::read(b"ABCDEF01-2345-6789-abcd-EF0123456789");
+    assert!(rt;
+        upper
+            == Ok(Id([
+                0xab, 0xcd, 0xef, 1, 0x23, 0x45, 0x67, 0x89, 0xab, 0xcd, 0xef, 1, 0x23, 0x45, 0x67,
+                0x89
+            ]))
+    );
+}
+
+#[test]
+fn names_by_their_form(rt: HostRuntime) -> Result<(), Fail> {
+    let name = Name::read(rt.alloc(), b"w_01")?;
+    assert_eq!(rt; name.as_str(), "w_01");
+    assert!(rt; name.copy(rt.alloc())? == name);
+    for bad in [b"".as_slice(), b"W1", b"w 1", b"w-1", &[b'a'; 65]] {
+        assert!(rt; Name::read(rt.alloc(), bad).err() == Some(NameFault::BadName));
+    }
+    assert!(rt; Name::read(rt.alloc(), &[b'z'; 64]).is_ok());
+    Ok(())
+}
+
+#[test]
+fn copies_are_equal(rt: HostRuntime) -> Result<(), Fail> {
+    let call = Entry::Call {
+        lane: 3,
+        op: Op::Router {
+            name: Name::read(rt.alloc(), b"r1")?,
+            worker: Name::read(rt.alloc(), b"w1")?,
+            options: Text::from_str(rt.alloc(), "{}")?,
+        },
+    };
+    assert!(rt; call.copy(rt.alloc())? == call);
+    let mut bytes = Bytes::new(rt.alloc());
+    bytes.push(1)?;
+    bytes.extend_from_slice(&[2, 3])?;
+    let worker = WorkerKey {
+        slot: 1,
+        generation: 2,
+    };
+    let chunk = Entry::Chunk { worker, bytes };
+    assert!(rt; chunk.copy(rt.alloc())? == chunk);
+    assert!(rt; chunk != call);
+    Ok(())
+}
+
+#[test]
+fn a_verdict_leaves_the_reason_out(rt: HostRuntime) -> Result<(), Fail> {
+    let reason = Text::from_str(rt.alloc(), "no such worker")?;
+    let error = WorkerError::TypeError;
+    let outcome = Outcome::Worker { error, reason };
+    assert!(rt; outcome.verdict() == Verdict::Worker { error });
+    Ok(())
+}
