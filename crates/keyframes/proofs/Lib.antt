@@ -1,0 +1,4 @@
+pub mod Bits
+pub mod Pieces
+pub mod Vp8Grammar
+pub mod Vp9Grammar

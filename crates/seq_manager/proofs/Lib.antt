@@ -1,0 +1,6 @@
+pub mod Distances
+pub mod GoingOn
+pub mod Modulo
+pub mod Places
+pub mod Running
+pub mod Steps

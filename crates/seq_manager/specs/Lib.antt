@@ -1,0 +1,5 @@
+pub mod Calls
+pub mod Extended
+pub mod Laws
+pub mod Numbering
+pub mod Outputs
