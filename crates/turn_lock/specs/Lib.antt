@@ -1,0 +1,5 @@
+pub mod Lists
+pub mod Turns
+pub mod Plays
+pub mod Passes
+pub mod Guards
