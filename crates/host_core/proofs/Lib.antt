@@ -1,0 +1,11 @@
+pub mod Mapped
+pub mod StreamsLemmas
+pub mod KeptLemmas
+pub mod RunLemmas
+pub mod FramesLemmas
+pub mod SplitLemmas
+pub mod FrameReading
+pub mod MessageLemmas
+pub mod LinesLemmas
+pub mod PayloadLemmas
+pub mod HostLemmas

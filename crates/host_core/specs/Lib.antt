@@ -1,0 +1,11 @@
+pub mod Frames
+pub mod Message
+pub mod State
+pub mod Call
+pub mod Step
+pub mod Run
+pub mod Lines
+pub mod JournalText
+pub mod Kept
+pub mod Apply
+pub mod Rows
