@@ -1,0 +1,9 @@
+pub mod Numbers
+pub mod Pieces
+pub mod Shapes
+pub mod Texts
+pub mod Sizes
+pub mod ReplayLemmas
+pub mod ReadLemmas
+pub mod WellFormed
+pub mod Back

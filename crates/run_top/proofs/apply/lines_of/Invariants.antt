@@ -1,0 +1,7 @@
+use Rattle.std.proofs.Common.{◌≡◌, take, flat_map}
+use Rattle.host_core.specs.Lines.{note_line}
+use Rattle.run_top.proofs.apply.lines_of.Given as goal
+
+-- the lines of the notes so far
+abbrev pub invariant-loop-note : goal.invariant-loop-note
+invariant-loop-note l = l.lines ≡ flat_map note_line (take l.note-index l.notes)

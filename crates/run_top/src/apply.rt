@@ -1,0 +1,70 @@
+ghost use Rattle.std.specs.Prelude.{◌≡◌, ℕ, ◌+◌, ◌<◌, ◌≤◌, ◌^◌, List, [], ◌∷◌, ◌++◌, length, IfOk, IfErr, OnOk, false, None, Some, flat_map, min};
+ghost use Rattle.host_core.specs.JournalText.{journal_size, max_journal};
+ghost use Rattle.host_core.specs.Lines.{note_line};
+ghost use Rattle.host_core.specs.Lines.{transcript_of};
+ghost use Rattle.host_core.specs.State.{start};
+ghost use Rattle.run_top.specs.Gives.{told_line};
+ghost use Rattle.run_top.specs.Replay.{first_unbuilt};
+ghost use Rattle.run_top.specs.Applying.{IsStopped};
+
+use host_core::{Host, Note, note_line};
+use ms_base::{ApplyFault, Bytes, Entry, NoMemory};
+use std::alloc::Global;
+
+/// Why not all entries of a journal were applied.
+#[derive(Clone, Copy, Debug, PartialEq, Eq)]
+pub(crate) enum StopFault {
+    /// The entry of this line, from 1, is of a kind that is not built yet.
+    Unbuilt { line: u32 },
+    NoMemory,
+}
+
+/// The transcript of a journal that is within its limit.
+pub(crate) fn transcript(alloc: Global, seed: u64, entries: Vec<Entry>) -> Result<Bytes, StopFault>
+    requires seed { seed < 2 ^ 60 }
+    requires limit { journal_size seed entries.items ≤ max_journal }
+    ensures ok { IfOk result (λ lines. lines ≡ transcript_of seed entries.items) }
+    ensures built { OnOk result (first_unbuilt (start seed) 2 entries.items ≡ None) }
+    ensures err { IfErr result (IsStopped (first_unbuilt (start seed) 2 entries.items)) }
+{
+    let Ok(mut host) = Host::new(alloc, seed) else {
+        return Err(StopFault::NoMemory);
+    };
+    apply_all(&mut host, entries)?;
+    match lines_of(alloc, host.notes()) {
+        Ok(lines) => Ok(lines),
+        Err(NoMemory) => Err(StopFault::NoMemory),
+    }
+}
+
+// Applies the entries, one after another.
+fn apply_all(host: &mut Host, entries: Vec<Entry>) -> Result<(), StopFault>
+    requires new { host.old ≡ record { seed = host.old.seed; entries = []; spent = false } }
+    requires limit { journal_size host.old.seed entries.items ≤ max_journal }
+    ensures ok { OnOk result (host.new ≡ record host.old { entries = entries.items }) }
+    ensures built { OnOk result (first_unbuilt (start host.old.seed) 2 entries.items ≡ None) }
+    ensures err { IfErr result (IsStopped (first_unbuilt (start host.old.seed) 2 entries.items)) }
+{
+    let mut line = 2u32;
+    for entry in entries {
+        match host.apply(entry) {
+            Ok(_) => {}
+            Err(ApplyFault::Unbuilt) => return Err(StopFault::Unbuilt { line }),
+            Err(ApplyFault::NoMemory) => return Err(StopFault::NoMemory),
+            Err(ApplyFault::Full { .. }) => unreachable!(),
+        }
+        line = line.saturating_add(1);
+    }
+    Ok(())
+}
+
+// The lines of the notes, one after another.
+fn lines_of(alloc: Global, notes: &[Note]) -> Result<Bytes, NoMemory>
+    ensures { IfOk result (λ lines. lines ≡ flat_map note_line notes.now) }
+{
+    let mut lines = Bytes::new(alloc);
+    for note in notes {
+        note_line(alloc, note, &mut lines)?;
+    }
+    Ok(lines)
+}

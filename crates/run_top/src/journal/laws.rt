@@ -1,0 +1,32 @@
+ghost use Rattle.std.specs.Prelude.{◌≡◌, ◌<◌, ◌^◌, ℕ, List, length, true, Ok};
+ghost use Rattle.ms_base.specs.declared.entry.Entry.{Entry};
+ghost use Rattle.run_top.specs.Journal.{reading_of, are_well_formed};
+ghost use Rattle.run_top.specs.Written.{journal_text};
+
+/// What a text is read as is written in as many bytes as the text has.
+pub fn what_reads_is_as_long()
+    ensures { (text : List ℕ) (seed : ℕ) (entries : List Entry) → reading_of text ≡ Ok (seed, entries) → length (journal_text seed entries) ≡ length text }
+{}
+
+/// A seed that is read is below 2^60.
+pub fn what_reads_has_a_seed()
+    ensures { (text : List ℕ) (seed : ℕ) (entries : List Entry) → reading_of text ≡ Ok (seed, entries) → seed < 2 ^ 60 }
+{}
+
+/// Each entry that is read is one that can be written.
+pub fn what_reads_is_well_formed()
+    ensures { (text : List ℕ) (seed : ℕ) (entries : List Entry) → reading_of text ≡ Ok (seed, entries) → are_well_formed entries ≡ true }
+{}
+
+/// The text of a journal, whose seed is below 2^60 and whose entries can be written, is read as that
+/// seed and those entries.
+pub fn written_journals_read_back()
+    ensures { (seed : ℕ) (entries : List Entry) → seed < 2 ^ 60 → are_well_formed entries ≡ true → reading_of (journal_text seed entries) ≡ Ok (seed, entries) }
+{}
+
+/// Two journals with one text, whose seeds are below 2^60 and whose entries can be written, are one
+/// journal.
+pub fn journals_differ_by_text()
+    ensures { (seed other_seed : ℕ) (entries others : List Entry) → seed < 2 ^ 60 → other_seed < 2 ^ 60 → are_well_formed entries ≡ true → are_well_formed others ≡ true
+        → journal_text seed entries ≡ journal_text other_seed others → (seed ≡ other_seed) × (entries ≡ others) }
+{}
