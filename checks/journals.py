@@ -343,8 +343,20 @@ def broken_line(random, line):
     return b" ".join(words)
 
 
+def many_payloads(random):
+    """A running worker says some hundred objects, most of which were edited: which of them are JSON?"""
+    said = bytearray()
+    for _ in range(200):
+        keys = random.choices(["event", "targetId", "data", "id", "accepted"], k=random.randint(0, 3))
+        payload = json_text(random, [("event", '"b"'), ("targetId", '"a"'), *((key, some_value(random)) for key in keys)])
+        while random.random() < 0.5:
+            payload = edited(random, payload)
+        said += frame(payload)
+    return text_of(["journal 1 7", *up(), *chunks_of(1, bytes(said), 65536)])
+
+
 def at_random(random):
-    data = text_of(Story(random).tell())
+    data = many_payloads(random) if random.random() < 0.05 else text_of(Story(random).tell())
     while random.random() < 0.3:
         data = broken(random, data)
     return data
