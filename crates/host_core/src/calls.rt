@@ -3,21 +3,28 @@ ghost use Rattle.host_core.specs.State.{next_call};
 
 use ms_base::{CallKey, NoMemory};
 use std::alloc::Global;
+use std::collections::BTreeMap;
 use std::marker::Model;
 
 /// The calls, in order.
 #[derive(Debug, Drop)]
 pub(crate) struct Calls {
     items: Vec<CallKey>,
+    /// How many calls each lane has made.
+    counts: BTreeMap<u32, usize>,
 }
 
 impl Model for Calls {
-    ghost use Rattle.std.specs.Prelude.{List};
+    ghost use Rattle.std.specs.Prelude.{◌≡◌, ◌==◌, ℕ, List, count_by, unwrap_or};
+    ghost use Rattle.std.specs.BTreeMap.{get};
+    ghost use Rattle.std.specs.Ordering.{nat_cmp};
     ghost use Rattle.ms_base.specs.declared.keys.CallKey.{CallKey};
 
     ghost Value = { List CallKey };
 
     ghost view = { λ c. c.items.items };
+
+    ghost invariant = { λ c. (lane : ℕ) → unwrap_or (get nat_cmp c.counts lane) 0 ≡ count_by (λ call. call.lane == lane) c.items.items };
 }
 
 impl Calls {
@@ -26,6 +33,7 @@ impl Calls {
     {
         Calls {
             items: Vec::new(alloc),
+            counts: BTreeMap::new(alloc),
         }
     }
 
@@ -34,7 +42,7 @@ impl Calls {
         requires { length self.now + 1 < 2 ^ 32 }
         ensures { result ≡ next_call self.now lane }
     {
-        let before = self.items.iter().filter(|call| call.lane == lane).count();
+        let before = self.counts.get(&lane).copied().unwrap_or(0);
         CallKey {
             lane,
             place: before as u32 + 1,
@@ -46,7 +54,9 @@ impl Calls {
         ensures ok { OnOk result (self.new ≡ self.old ++ call ∷ []) }
         ensures err { OnErr result (self.new ≡ self.old) }
     {
-        self.items.push(call)?;
+        self.items.reserve(1)?;
+        *self.counts.entry(call.lane)?.or_insert(0) += 1;
+        self.items.push_reserved(call);
         Ok(())
     }
 }
