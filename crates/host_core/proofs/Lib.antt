@@ -9,3 +9,5 @@ pub mod MessageLemmas
 pub mod LinesLemmas
 pub mod PayloadLemmas
 pub mod HostLemmas
+pub mod LongerLemmas
+pub mod ObjectsLemmas

@@ -8,4 +8,5 @@ pub mod Lines
 pub mod JournalText
 pub mod Kept
 pub mod Apply
+pub mod Objects
 pub mod Rows

@@ -3,6 +3,7 @@ ghost use Rattle.host_core.specs.State.{named};
 
 use ms_base::{Id, Kind, Name, NoMemory, Serial};
 use std::alloc::Global;
+use std::collections::BTreeMap;
 use std::marker::Model;
 
 /// An object of the tree: a Worker, or a Router on one.
@@ -35,15 +36,20 @@ impl Object {
 #[derive(Debug, Drop)]
 pub(crate) struct Objects {
     items: Vec<Object>,
+    /// The place of the latest object of each name.
+    places: BTreeMap<Vec<u8>, usize>,
 }
 
 impl Model for Objects {
-    ghost use Rattle.std.specs.Prelude.{List};
+    ghost use Rattle.std.specs.Prelude.{ℕ, List};
     ghost use Rattle.host_core.specs.declared.objects.Object.{Object};
+    ghost use Rattle.host_core.specs.Objects.{IsPlaceOf, place_of};
 
     ghost Value = { List Object };
 
     ghost view = { λ o. o.items.items };
+
+    ghost invariant = { λ o. (name : List ℕ) → IsPlaceOf o.items.items name (place_of o.places name) };
 }
 
 impl Objects {
@@ -52,6 +58,7 @@ impl Objects {
     {
         Objects {
             items: Vec::new(alloc),
+            places: BTreeMap::new(alloc),
         }
     }
 
@@ -60,7 +67,10 @@ impl Objects {
         ensures ok { OnOk result (self.new ≡ self.old ++ object ∷ []) }
         ensures err { OnErr result (self.new ≡ self.old) }
     {
-        self.items.push(object)?;
+        let name = Vec::from_slice(*self.items.allocator(), object.name.as_slice())?;
+        self.items.reserve(1)?;
+        self.places.insert(name, self.items.len())?;
+        self.items.push_reserved(object);
         Ok(())
     }
 
@@ -68,9 +78,8 @@ impl Objects {
     pub(crate) fn named(&self, name: &[u8]) -> Option<&Object>
         ensures { option_copied result ≡ named self.now name.now }
     {
-        self.items
-            .iter()
-            .rev()
-            .find(|object| object.name.as_slice() == name)
+        self.places
+            .get(name)
+            .and_then(|place| self.items.get(*place))
     }
 }
