@@ -1,5 +1,5 @@
 -- What a host keeps, from its first entry on.
-use Rattle.std.proofs.Common.{◌≡◌, ℕ, ◌+◌, ◌-◌, ◌≤◌, ◌<◌, ◌^◌, List, [], ◌∷◌, ◌++◌, length, take, map, Bool, true, false, cond, Option, Some, None, option_map, slice_get, min, nat_lt, Result, Ok, Err, is_err, refl, sym, ap, ◌∙◌, subst, arith, append_assoc, length-append, decimal, flat_map, zero, suc}
+use Rattle.std.proofs.Common.{◌≡◌, ℕ, ◌+◌, ◌-◌, ◌≤◌, ◌<◌, ◌^◌, List, [], ◌∷◌, ◌++◌, length, take, map, Bool, true, false, cond, Option, Some, None, option_map, slice_get, min, nat_lt, Result, Ok, Err, is_err, refl, sym, ap, ◌∙◌, subst, arith, append_assoc, length-append, decimal, zero, suc}
 use Rattle.std.proofs.lemmas.Fmt.{length-decimal-le}
 use Rattle.std.specs.Result.{OnErr, OnOk}
 use Rattle.std.proofs.lemmas.Bool.{le-leb}

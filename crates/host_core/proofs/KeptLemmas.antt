@@ -1,5 +1,5 @@
 -- What is kept of the state goes with it, entry by entry.
-use Rattle.std.proofs.Common.{◌≡◌, ℕ, ◌+◌, ◌≤◌, ◌<◌, List, [], ◌∷◌, ◌++◌, length, take, map, Bool, true, false, not, ◌&&◌, cond, Option, Some, None, refl, sym, ap, ◌∙◌, subst, arith, append_assoc}
+use Rattle.std.proofs.Common.{◌≡◌, ℕ, List, [], ◌∷◌, ◌++◌, map, Bool, true, false, ◌&&◌, cond, Option, Some, None, refl, sym, ap, ◌∙◌}
 use Rattle.ms_base.specs.declared.entry.Entry.{Entry}
 use Rattle.ms_base.specs.declared.entry.Entry.TheVariants as entry
 use Rattle.ms_base.specs.declared.entry.Op.{Op}
@@ -10,14 +10,13 @@ use Rattle.ms_base.specs.declared.outcome.Outcome.{Outcome}
 use Rattle.ms_base.specs.declared.outcome.Outcome.TheVariants as outcome
 use Rattle.host_core.specs.Frames.{frames, rest_of, new_frames}
 use Rattle.host_core.specs.Message.{message_of}
-use Rattle.host_core.specs.State.{State, is_up, is_wanted, is_taken, named, next_call, pending, slot_of, slot_with, stream_of, with_stream}
+use Rattle.host_core.specs.State.{State, is_up, is_wanted, named, next_call, pending, slot_of, slot_with, stream_of, with_stream}
 use Rattle.host_core.specs.Call.{called, by_refusal, accepted_call, first_refusal, router_by_slot, router_by_worker}
-use Rattle.host_core.specs.Step.{Micro, Calls, Starts, Says, step, steps, started, heard, accepted_response, refused_response, noticed, running_in, says_running, entry_step, micro_steps, with_bytes}
-use Rattle.host_core.specs.Kept.{kept, rests, rest_stream, kept_bytes, kept_messages, kept_chunk, kept_start, kept_step}
+use Rattle.host_core.specs.Step.{Micro, Calls, Starts, Says, step, steps, started, heard, accepted_response, refused_response, noticed, running_in, says_running, entry_step}
+use Rattle.host_core.specs.Kept.{kept, rests, kept_bytes, kept_messages, kept_step}
 use Rattle.host_core.specs.declared.message.Message.{Message}
 use Rattle.host_core.specs.declared.message.Message.TheVariants as message
 use Rattle.host_core.specs.declared.note.Note.{Note}
-use Rattle.host_core.specs.declared.note.Note.TheVariants as note
 use Rattle.host_core.specs.declared.objects.Object.{Object}
 use Rattle.host_core.specs.declared.requests.Request.{Request}
 use Rattle.host_core.specs.declared.slots.Slot.{Slot}

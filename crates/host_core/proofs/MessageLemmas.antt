@@ -1,10 +1,10 @@
 -- The message that a payload is, by the way it is read.
-use Rattle.std.proofs.Common.{◌≡◌, ◌≢◌, ℕ, ◌-◌, ◌<◌, ◌≤◌, List, [], ◌∷◌, length, get_or, take, drop, Bool, true, false, cond, ◌&&◌, ◌||◌, Option, Some, None, Result, Err, option_map, option_and_then, unwrap_or, Bor, codes, refl, sym, ap, ◌∙◌, subst, arith}
+use Rattle.std.proofs.Common.{◌≡◌, ◌≢◌, ℕ, ◌-◌, ◌<◌, List, [], ◌∷◌, length, get_or, take, drop, Bool, true, false, Option, Some, None, Result, Err, option_map, option_and_then, unwrap_or, Bor, codes, refl, ap, arith}
 use Rattle.std.proofs.lemmas.Bool.Decides.{nat_tests}
 use Rattle.std.proofs.lemmas.List.{length-take, take_all}
 use Rattle.std.proofs.lemmas.Str.{IsUtf8-from_is_utf8, is_utf8-from_IsUtf8}
 use Rattle.std.specs.Str.{IsUtf8, is_utf8}
-use Rattle.serde_json.specs.Data.{Num, unsigned, negative, float, Data, null, boolean, number, string, array, object, Members}
+use Rattle.serde_json.specs.Data.{Data, null, boolean, number, string, array, object, Members}
 use Rattle.serde_json.specs.Find.{get_member, as_bool, as_str}
 use Rattle.serde_json.specs.Read.{read}
 use Rattle.ms_base.specs.Id.{id_of_text, is_id_text}
@@ -13,8 +13,7 @@ use Rattle.ms_base.specs.declared.id.Id.{Id}
 use Rattle.ms_base.specs.declared.id.IdFault.{IdFault}
 use Rattle.ms_base.specs.declared.id.IdFault.TheVariants.{BadId}
 use Rattle.host_core.specs.Message.{value_of, error_named, text_or_empty, refusal_of, response_of, is_log_letter, packet_of, of_value, message_of}
-use Rattle.host_core.specs.declared.message.Message.{Message}
-use Rattle.host_core.specs.declared.message.Message.TheVariants.{Accepted, Refused, Log, Packet, Unexpected}
+use Rattle.host_core.specs.declared.message.Message.TheVariants.{Refused, Log, Packet, Unexpected}
 
 -- ---- packets
 

@@ -1,12 +1,12 @@
 -- A request for a Router is short.
-use Rattle.std.proofs.Common.{◌≡◌, ℕ, ◌+◌, ◌*◌, ◌<◌, ◌≤◌, ◌^◌, List, [], ◌∷◌, ◌++◌, length, Bool, true, false, cond, nat_lt, codes, refl, arith, length-append, decimal, flat_map, Some}
+use Rattle.std.proofs.Common.{◌≡◌, ℕ, ◌*◌, ◌<◌, ◌≤◌, ◌^◌, List, [], ◌∷◌, length, Bool, true, false, cond, nat_lt, codes, arith, length-append, decimal, flat_map, Some}
 use Rattle.std.proofs.lemmas.Fmt.{length-decimal-le}
 use Rattle.std.proofs.lemmas.Bool.Decides.{nat_tests}
 use Rattle.ms_base.specs.Id.{is_id_text, id_of_text}
 use Rattle.ms_base.proofs.IdLemmas.{id_text_of_some}
 use Rattle.json.specs.Print.{escape, escape_byte, escape_letter}
 use Rattle.serde_json.proofs.OnLiterals.{serde_json_on_literals}
-use Rattle.serde_json.specs.Data.{Data, number, unsigned, string, object, member, no_members}
+use Rattle.serde_json.specs.Data.{number, unsigned, string, object, member, no_members}
 use Rattle.serde_json.specs.Written.{compact_text}
 
 at_most_six : (b c : Bool) (xs ys zs : List ℕ) → length xs ≤ 6 → length ys ≤ 6 → length zs ≤ 6 → length (cond b xs (cond c ys zs)) ≤ 6

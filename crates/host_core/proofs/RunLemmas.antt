@@ -1,5 +1,5 @@
 -- A journal with one more entry; how much of each there is after a journal.
-use Rattle.std.proofs.Common.{◌≡◌, ℕ, ◌+◌, ◌≤◌, ◌<◌, ◌^◌, List, [], ◌∷◌, ◌++◌, length, take, map, Bool, true, false, not, ◌&&◌, cond, Option, Some, None, refl, sym, ap, ◌∙◌, subst, arith, append_assoc, length-append, flat_map, zero, suc}
+use Rattle.std.proofs.Common.{◌≡◌, ℕ, ◌+◌, ◌≤◌, ◌<◌, ◌^◌, List, [], ◌∷◌, ◌++◌, length, map, Bool, true, false, ◌&&◌, cond, Option, Some, None, refl, sym, ap, ◌∙◌, subst, arith, append_assoc, length-append, suc}
 use Rattle.std.proofs.lemmas.List.{length-map}
 use Rattle.ms_base.specs.declared.entry.Entry.{Entry}
 use Rattle.ms_base.specs.declared.entry.Entry.TheVariants as entry
@@ -9,17 +9,16 @@ use Rattle.ms_base.specs.declared.keys.CallKey.{CallKey}
 use Rattle.ms_base.specs.declared.keys.WorkerKey.{WorkerKey}
 use Rattle.ms_base.specs.declared.outcome.Outcome.{Outcome}
 use Rattle.ms_base.specs.declared.outcome.Outcome.TheVariants as outcome
-use Rattle.host_core.specs.Frames.{frame, frames, rest_of, new_frames, begins_with_frame, is_broken}
+use Rattle.host_core.specs.Frames.{new_frames, begins_with_frame, is_broken}
 use Rattle.host_core.specs.Message.{message_of}
-use Rattle.host_core.specs.State.{State, start, is_up, is_wanted, named, next_call, pending, slot_of, slot_with, stream_of, with_stream, settled, settle_if}
-use Rattle.host_core.specs.Call.{called, by_refusal, accepted_call, first_refusal, router_by_slot, router_by_worker}
-use Rattle.host_core.specs.Step.{Micro, Calls, Starts, Says, step, steps, started, heard, accepted_response, refused_response, noticed, running_in, says_running, entry_step, micro_steps, with_bytes, is_unbuilt}
+use Rattle.host_core.specs.State.{State, start, is_up, is_wanted, named, next_call, pending, slot_of, slot_with, stream_of, settled, settle_if}
+use Rattle.host_core.specs.Call.{by_refusal, accepted_call, first_refusal, router_by_slot, router_by_worker}
+use Rattle.host_core.specs.Step.{Starts, Says, steps, heard, accepted_response, refused_response, noticed, running_in, says_running, entry_step, is_unbuilt}
 use Rattle.host_core.specs.Run.{run, state_of, notes_of, sent_of, payload_to}
-use Rattle.host_core.specs.Kept.{kept, rests, HasRoom}
+use Rattle.host_core.specs.Kept.{kept, HasRoom}
 use Rattle.host_core.specs.declared.message.Message.{Message}
 use Rattle.host_core.specs.declared.message.Message.TheVariants as message
 use Rattle.host_core.specs.declared.note.Note.{Note}
-use Rattle.host_core.specs.declared.note.Note.TheVariants as note
 use Rattle.host_core.specs.declared.objects.Object.{Object}
 use Rattle.host_core.specs.declared.requests.Request.{Request}
 use Rattle.host_core.specs.declared.slots.Slot.{Slot}

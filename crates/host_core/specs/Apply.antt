@@ -1,5 +1,5 @@
 -- What stands in the way of an entry. This project's own.
-use Rattle.std.specs.Prelude.{ℕ, ◌+◌, List, length, min, nat_lt, if◌then◌else◌, Option, Some, None}
+use Rattle.std.specs.Prelude.{ℕ, ◌+◌, length, min, nat_lt, if◌then◌else◌, Option, Some, None}
 use Rattle.ms_base.specs.declared.applied.ApplyFault.{ApplyFault}
 use Rattle.ms_base.specs.declared.applied.ApplyFault.TheVariants as fault
 use Rattle.ms_base.specs.declared.entry.Entry.{Entry}

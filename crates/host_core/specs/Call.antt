@@ -1,6 +1,6 @@
 -- What a call comes to: its first refusal, or what it asks a worker. This project's own.
-use Rattle.std.specs.Prelude.{ℕ, ◌+◌, List, [], ◌∷◌, ◌++◌, length, Bool, true, false, not, ◌==◌, nat_le, if◌then◌else◌, Option, Some, None, codes, bytes_eq}
-use Rattle.serde_json.specs.Data.{unsigned, Data, number, string, object, member, no_members}
+use Rattle.std.specs.Prelude.{ℕ, ◌+◌, List, [], ◌∷◌, ◌++◌, length, Bool, true, false, not, nat_le, if◌then◌else◌, Option, Some, None, codes}
+use Rattle.serde_json.specs.Data.{unsigned, number, string, object, member, no_members}
 use Rattle.serde_json.specs.Written.{compact_text}
 use Rattle.ms_base.specs.Id.{id_text}
 use Rattle.ms_base.specs.declared.keys.CallKey.{CallKey}

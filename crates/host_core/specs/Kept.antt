@@ -1,6 +1,6 @@
 -- What of the state is kept as the host runs: all of it, but of each stream only the rest that waits for more.
 -- This project's own.
-use Rattle.std.specs.Prelude.{◌≡◌, ◌≤◌, ◌<◌, ◌^◌, ℕ, ◌+◌, List, [], ◌∷◌, ◌++◌, length, map, take, Bool, false, ◌&&◌, if◌then◌else◌}
+use Rattle.std.specs.Prelude.{◌≡◌, ◌≤◌, ◌<◌, ◌^◌, ℕ, ◌+◌, List, [], ◌++◌, length, map, take, Bool, false, ◌&&◌, if◌then◌else◌}
 use Rattle.ms_base.specs.declared.applied.SlotLook.{SlotLook}
 use Rattle.ms_base.specs.declared.applied.SlotLook.TheVariants as look
 use Rattle.ms_base.specs.declared.keys.WorkerKey.{WorkerKey}

@@ -1,12 +1,11 @@
 -- A whole journal: what the host knows and notes after it, and what is read off the notes. This project's own.
-use Rattle.std.specs.Prelude.{ℕ, ◌+◌, ◌-◌, List, [], ◌∷◌, ◌++◌, length, Bool, ◌&&◌, ◌==◌, nat_le, if◌then◌else◌, Option, Some, None, option_map, flat_map, filter_map, slice_get}
+use Rattle.std.specs.Prelude.{ℕ, ◌-◌, List, [], ◌∷◌, ◌++◌, length, Bool, ◌&&◌, ◌==◌, nat_le, if◌then◌else◌, Option, Some, None, flat_map, slice_get}
 use Rattle.ms_base.specs.Outcome.{verdict_of_outcome}
 use Rattle.ms_base.specs.declared.applied.SlotLook.{SlotLook}
 use Rattle.ms_base.specs.declared.applied.SlotLook.TheVariants as look
 use Rattle.ms_base.specs.declared.keys.CallKey.{CallKey}
 use Rattle.ms_base.specs.declared.keys.WorkerKey.{WorkerKey}
 use Rattle.ms_base.specs.declared.entry.Entry.{Entry}
-use Rattle.ms_base.specs.declared.outcome.Outcome.{Outcome}
 use Rattle.ms_base.specs.declared.outcome.Verdict.{Verdict}
 use Rattle.host_core.specs.Frames.{frame}
 use Rattle.host_core.specs.State.{State, start, same_worker}

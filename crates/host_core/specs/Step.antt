@@ -1,6 +1,6 @@
 -- One step of the host. An entry is cut into micro steps, of which a chunk has one for each of its messages.
 -- This project's own.
-use Rattle.std.specs.Prelude.{ℕ, ◌+◌, List, [], ◌∷◌, ◌++◌, map, Bool, true, false, not, ◌&&◌, ◌||◌, ◌==◌, if◌then◌else◌, Option, Some, None, codes, bytes_eq}
+use Rattle.std.specs.Prelude.{ℕ, List, [], ◌∷◌, ◌++◌, map, Bool, not, ◌&&◌, ◌||◌, ◌==◌, if◌then◌else◌, Option, Some, None, codes, bytes_eq}
 use Rattle.ms_base.specs.declared.keys.WorkerKey.{WorkerKey}
 use Rattle.ms_base.specs.declared.entry.Entry.{Entry}
 use Rattle.ms_base.specs.declared.entry.Entry.TheVariants as entry
@@ -18,7 +18,6 @@ use Rattle.host_core.specs.declared.note.Note.{Note}
 use Rattle.host_core.specs.declared.note.Note.TheVariants as note
 use Rattle.host_core.specs.declared.requests.Request.{Request}
 use Rattle.host_core.specs.declared.slots.Slot.{Slot}
-use Rattle.host_core.specs.declared.streams.Stream.{Stream}
 
 -- what the host may hear in one step
 pub data Micro : Type 0 where

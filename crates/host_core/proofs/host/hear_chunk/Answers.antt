@@ -1,4 +1,4 @@
-use Rattle.std.proofs.Common.{sym, ◌∙◌, rules}
+use Rattle.std.proofs.Common.{rules}
 use Rattle.host_core.proofs.HostLemmas.{heard-chunk}
 use Rattle.host_core.proofs.StreamsLemmas.{on_ok}
 use Rattle.host_core.proofs.host.hear_chunk.Goals as goal

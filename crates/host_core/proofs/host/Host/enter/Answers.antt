@@ -1,7 +1,7 @@
-use Rattle.std.proofs.Common.{◌≡◌, ℕ, ◌+◌, ◌++◌, List, [], ◌∷◌, length, false, ap, sym, ◌∙◌, subst}
+use Rattle.std.proofs.Common.{◌≡◌, ◌++◌, [], ◌∷◌, length, false, ap, sym, ◌∙◌}
 use Rattle.ms_base.specs.declared.keys.WorkerKey.{WorkerKey}
 use Rattle.host_core.specs.Apply.{size_with}
-use Rattle.host_core.specs.Kept.{Goes, IsRun, kept_step}
+use Rattle.host_core.specs.Kept.{Goes, kept_step}
 use Rattle.host_core.specs.Run.{Journal, notes_of, sent_of}
 use Rattle.host_core.specs.State.{stream_of}
 use Rattle.host_core.proofs.HostLemmas.{room-run, is_run-next, goes-on}

@@ -1,6 +1,3 @@
-use Rattle.std.proofs.Common.{◌≡◌, List, length, false, sym, subst, ap}
-use Rattle.host_core.specs.JournalText.{head_line}
-use Rattle.host_core.specs.Kept.{IsRun}
 use Rattle.host_core.proofs.HostLemmas.{is_run-new}
 use Rattle.host_core.proofs.host.Host.new.Goals as goal
 

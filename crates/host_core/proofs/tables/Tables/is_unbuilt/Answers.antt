@@ -1,4 +1,4 @@
-use Rattle.std.proofs.Common.{◌≡◌, List, false, sym, subst, ap}
+use Rattle.std.proofs.Common.{◌≡◌, false, sym, subst}
 use Rattle.host_core.specs.Frames.{begins_with_frame}
 use Rattle.host_core.specs.State.{State, stream_of}
 use Rattle.host_core.proofs.tables.Tables.is_unbuilt.Goals as goal
