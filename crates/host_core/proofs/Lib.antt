@@ -11,3 +11,4 @@ pub mod PayloadLemmas
 pub mod HostLemmas
 pub mod LongerLemmas
 pub mod ObjectsLemmas
+pub mod NotesLemmas

@@ -9,4 +9,5 @@ pub mod JournalText
 pub mod Kept
 pub mod Apply
 pub mod Objects
+pub mod Notes
 pub mod Rows

@@ -10,6 +10,7 @@ ghost use Rattle.host_core.specs.Step.{Says, steps};
 use crate::journal_text::{entry_size, head_size};
 use crate::message::Message;
 use crate::note::Note;
+use crate::notes::Notes;
 use crate::streams::Streams;
 use crate::tables::Tables;
 use ms_base::{Applied, ApplyFault, CallKey, Entry, NoMemory, SlotLook, Verdict, WorkerKey};
@@ -29,7 +30,7 @@ pub struct Host {
     size: u64,
     tables: Tables,
     sent: Streams,
-    notes: Vec<Note>,
+    notes: Notes,
 }
 
 impl Model for Host {
@@ -40,7 +41,7 @@ impl Model for Host {
 
     ghost view = { λ h. record { seed = h.seed; entries = h.journal.items; spent = h.spent } };
 
-    ghost invariant = { λ h. IsRun h.seed h.journal.items h.spent h.size h.tables h.sent h.notes.items };
+    ghost invariant = { λ h. IsRun h.seed h.journal.items h.spent h.size h.tables h.sent h.notes };
 }
 
 impl Host {
@@ -56,7 +57,7 @@ impl Host {
             size: head_size(seed),
             tables: Tables::new(alloc, seed),
             sent: Streams::new(alloc),
-            notes: Vec::new(alloc),
+            notes: Notes::new(alloc),
         })
     }
 
@@ -168,7 +169,7 @@ impl Host {
     pub fn verdict(&self, key: CallKey) -> Option<Verdict>
         ensures { result ≡ verdict_in (notes_of self.now.seed self.now.entries) key }
     {
-        verdict_in(self.notes.as_slice(), key)
+        self.notes.verdict(key)
     }
 
     /// The state of a slot, counted from 1.
@@ -199,30 +200,16 @@ impl Host {
     }
 }
 
-// What the first `settled` note of a call says.
-fn verdict_in(notes: &[Note], key: CallKey) -> Option<Verdict>
-    ensures { result ≡ verdict_in notes.now key }
-{
-    for note in notes {
-        if let Note::Settled { call, outcome } = note {
-            if *call == key {
-                return Some(outcome.verdict());
-            }
-        }
-    }
-    None
-}
-
 // Hears an entry: what is kept goes on, and what follows is noted and sent.
 fn hear(
     tables: &mut Tables,
     sent: &mut Streams,
-    notes: &mut Vec<Note>,
+    notes: &mut Notes,
     entry: &Entry,
 ) -> Result<(), NoMemory>
     requires { HasRoom tables.old }
-    ensures ok { OnOk result (Goes tables.new notes.old.items notes.new.items (kept_step tables.old entry.now)) }
-    ensures err { OnErr result (IsCutOff tables.old tables.new notes.old.items notes.new.items) }
+    ensures ok { OnOk result (Goes tables.new notes.old notes.new (kept_step tables.old entry.now)) }
+    ensures err { OnErr result (IsCutOff tables.old tables.new notes.old notes.new) }
     ensures sent { OnOk result ((w : WorkerKey) → stream_of sent.new w ≡ stream_of sent.old w ++ sent_of (kept_step tables.old entry.now).1 w) }
     ensures unsent { OnErr result (sent.new ≡ sent.old) }
 {
@@ -238,10 +225,10 @@ fn hear_start(
     tables: &mut Tables,
     worker: WorkerKey,
     up: bool,
-    notes: &mut Vec<Note>,
+    notes: &mut Notes,
 ) -> Result<(), NoMemory>
-    ensures ok { OnOk result (Goes tables.new notes.old.items notes.new.items (kept_start tables.old worker up)) }
-    ensures err { OnErr result (IsCutOff tables.old tables.new notes.old.items notes.new.items) }
+    ensures ok { OnOk result (Goes tables.new notes.old notes.new (kept_start tables.old worker up)) }
+    ensures err { OnErr result (IsCutOff tables.old tables.new notes.old notes.new) }
 {
     if up && tables.is_wanted(worker) {
         tables.start(worker, notes)
@@ -255,11 +242,11 @@ fn hear_chunk(
     tables: &mut Tables,
     worker: WorkerKey,
     bytes: &[u8],
-    notes: &mut Vec<Note>,
+    notes: &mut Notes,
 ) -> Result<(), NoMemory>
     requires { HasRoom tables.old }
-    ensures ok { OnOk result (Goes tables.new notes.old.items notes.new.items (kept_chunk tables.old worker bytes.now)) }
-    ensures err { OnErr result (IsCutOff tables.old tables.new notes.old.items notes.new.items) }
+    ensures ok { OnOk result (Goes tables.new notes.old notes.new (kept_chunk tables.old worker bytes.now)) }
+    ensures err { OnErr result (IsCutOff tables.old tables.new notes.old notes.new) }
 {
     if !tables.is_up(worker) {
         return Ok(());
@@ -273,10 +260,10 @@ fn hear_messages(
     tables: &mut Tables,
     worker: WorkerKey,
     messages: Vec<Message>,
-    notes: &mut Vec<Note>,
+    notes: &mut Notes,
 ) -> Result<(), NoMemory>
-    ensures ok { OnOk result (Goes tables.new notes.old.items notes.new.items (steps tables.old (map (Says worker) messages.items))) }
-    ensures err { OnErr result (IsCutOff tables.old tables.new notes.old.items notes.new.items) }
+    ensures ok { OnOk result (Goes tables.new notes.old notes.new (steps tables.old (map (Says worker) messages.items))) }
+    ensures err { OnErr result (IsCutOff tables.old tables.new notes.old notes.new) }
 {
     for message in messages {
         tables.hear(worker, message, notes)?;

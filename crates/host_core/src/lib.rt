@@ -8,6 +8,7 @@ mod journal_text;
 mod lines;
 mod message;
 mod note;
+mod notes;
 mod objects;
 mod payloads;
 mod requests;

@@ -11,6 +11,7 @@ ghost use Rattle.host_core.specs.Step.{started, heard, noticed, accepted_respons
 use crate::calls::Calls;
 use crate::message::Message;
 use crate::note::Note;
+use crate::notes::Notes;
 use crate::objects::{Object, Objects};
 use crate::payloads::{create_router, frame};
 use crate::requests::{Request, Requests};
@@ -67,12 +68,12 @@ impl Tables {
         &mut self,
         lane: u32,
         op: &Op,
-        notes: &mut Vec<Note>,
+        notes: &mut Notes,
         sent: &mut Streams,
     ) -> Result<(), NoMemory>
         requires { HasRoom self.old }
-        ensures ok { OnOk result (Goes self.new notes.old.items notes.new.items (called self.old lane op.now)) }
-        ensures err { OnErr result (IsCutOff self.old self.new notes.old.items notes.new.items) }
+        ensures ok { OnOk result (Goes self.new notes.old notes.new (called self.old lane op.now)) }
+        ensures err { OnErr result (IsCutOff self.old self.new notes.old notes.new) }
         ensures sent { OnOk result ((w : WorkerKey) → stream_of sent.new w ≡ stream_of sent.old w ++ sent_of (called self.old lane op.now).1 w) }
         ensures unsent { OnErr result (sent.new ≡ sent.old) }
     {
@@ -80,8 +81,7 @@ impl Tables {
         match self.first_refusal(op) {
             Some(outcome) => {
                 self.calls.add(call)?;
-                notes.push(Note::Settled { call, outcome })?;
-                Ok(())
+                notes.push(Note::Settled { call, outcome })
             }
             None => self.accept(call, op, notes, sent),
         }
@@ -143,13 +143,13 @@ impl Tables {
         &mut self,
         call: CallKey,
         op: &Op,
-        notes: &mut Vec<Note>,
+        notes: &mut Notes,
         sent: &mut Streams,
     ) -> Result<(), NoMemory>
         requires room { HasRoom self.old }
         requires accepted { first_refusal self.old op.now ≡ None }
-        ensures ok { OnOk result (Goes self.new notes.old.items notes.new.items (accepted_call self.old call op.now)) }
-        ensures err { OnErr result (IsCutOff self.old self.new notes.old.items notes.new.items) }
+        ensures ok { OnOk result (Goes self.new notes.old notes.new (accepted_call self.old call op.now)) }
+        ensures err { OnErr result (IsCutOff self.old self.new notes.old notes.new) }
         ensures sent { OnOk result ((w : WorkerKey) → stream_of sent.new w ≡ stream_of sent.old w ++ sent_of (accepted_call self.old call op.now).1 w) }
         ensures unsent { OnErr result (sent.new ≡ sent.old) }
     {
@@ -160,16 +160,11 @@ impl Tables {
     }
 
     // Adds a Worker, whose start is wanted.
-    fn add_worker(
-        &mut self,
-        call: CallKey,
-        name: &Name,
-        notes: &mut Vec<Note>,
-    ) -> Result<(), NoMemory>
+    fn add_worker(&mut self, call: CallKey, name: &Name, notes: &mut Notes) -> Result<(), NoMemory>
         requires room { HasRoom self.old }
         requires slots { length self.old.slots < max_slots }
-        ensures ok { OnOk result (Goes self.new notes.old.items notes.new.items (accepted_worker self.old call name.now)) }
-        ensures err { OnErr result (IsCutOff self.old self.new notes.old.items notes.new.items) }
+        ensures ok { OnOk result (Goes self.new notes.old notes.new (accepted_worker self.old call name.now)) }
+        ensures err { OnErr result (IsCutOff self.old self.new notes.old notes.new) }
     {
         let serial = Serial(self.next);
         let id = object_id(self.seed, self.next);
@@ -210,12 +205,12 @@ impl Tables {
         call: CallKey,
         name: &Name,
         worker: &Name,
-        notes: &mut Vec<Note>,
+        notes: &mut Notes,
         sent: &mut Streams,
     ) -> Result<(), NoMemory>
         requires room { HasRoom self.old }
-        ensures ok { OnOk result (Goes self.new notes.old.items notes.new.items (router_by_worker self.old call (named self.old.objects worker.now) name.now)) }
-        ensures err { OnErr result (IsCutOff self.old self.new notes.old.items notes.new.items) }
+        ensures ok { OnOk result (Goes self.new notes.old notes.new (router_by_worker self.old call (named self.old.objects worker.now) name.now)) }
+        ensures err { OnErr result (IsCutOff self.old self.new notes.old notes.new) }
         ensures sent { OnOk result ((w : WorkerKey) → stream_of sent.new w ≡ stream_of sent.old w ++ sent_of (router_by_worker self.old call (named self.old.objects worker.now) name.now).1 w) }
         ensures unsent { OnErr result (sent.new ≡ sent.old) }
     {
@@ -237,12 +232,12 @@ impl Tables {
         name: &Name,
         worker: Serial,
         channel: WorkerKey,
-        notes: &mut Vec<Note>,
+        notes: &mut Notes,
         sent: &mut Streams,
     ) -> Result<(), NoMemory>
         requires room { HasRoom self.old }
-        ensures ok { OnOk result (Goes self.new notes.old.items notes.new.items (accepted_router self.old call worker channel name.now)) }
-        ensures err { OnErr result (IsCutOff self.old self.new notes.old.items notes.new.items) }
+        ensures ok { OnOk result (Goes self.new notes.old notes.new (accepted_router self.old call worker channel name.now)) }
+        ensures err { OnErr result (IsCutOff self.old self.new notes.old notes.new) }
         ensures sent { OnOk result ((w : WorkerKey) → stream_of sent.new w ≡ stream_of sent.old w ++ sent_of (accepted_router self.old call worker channel name.now).1 w) }
         ensures unsent { OnErr result (sent.new ≡ sent.old) }
     {
@@ -278,15 +273,15 @@ impl Tables {
         &mut self,
         request: Request,
         payload: Bytes,
-        notes: &mut Vec<Note>,
+        notes: &mut Notes,
         sent: &mut Streams,
     ) -> Result<(), NoMemory>
         requires next { self.old.next + 1 < 2 ^ 32 }
         requires id { request.id ≡ issued self.old.requests request.channel + 1 }
         requires open { request.settled ≡ false }
         requires short { length payload < 2 ^ 32 }
-        ensures ok { OnOk result (Goes self.new notes.old.items notes.new.items (requested self.old request payload)) }
-        ensures err { OnErr result (IsCutOff self.old self.new notes.old.items notes.new.items) }
+        ensures ok { OnOk result (Goes self.new notes.old notes.new (requested self.old request payload)) }
+        ensures err { OnErr result (IsCutOff self.old self.new notes.old notes.new) }
         ensures sent { OnOk result ((w : WorkerKey) → stream_of sent.new w ≡ stream_of sent.old w ++ sent_of (requested self.old request payload).1 w) }
         ensures unsent { OnErr result (sent.new ≡ sent.old) }
     {
@@ -304,9 +299,9 @@ impl Tables {
     }
 
     /// A wanted worker was started.
-    pub(crate) fn start(&mut self, worker: WorkerKey, notes: &mut Vec<Note>) -> Result<(), NoMemory>
-        ensures ok { OnOk result (Goes self.new notes.old.items notes.new.items (started self.old worker)) }
-        ensures err { OnErr result (IsCutOff self.old self.new notes.old.items notes.new.items) }
+    pub(crate) fn start(&mut self, worker: WorkerKey, notes: &mut Notes) -> Result<(), NoMemory>
+        ensures ok { OnOk result (Goes self.new notes.old notes.new (started self.old worker)) }
+        ensures err { OnErr result (IsCutOff self.old self.new notes.old notes.new) }
     {
         self.streams.add(Stream {
             worker,
@@ -322,10 +317,10 @@ impl Tables {
         &mut self,
         worker: WorkerKey,
         message: Message,
-        notes: &mut Vec<Note>,
+        notes: &mut Notes,
     ) -> Result<(), NoMemory>
-        ensures ok { OnOk result (Goes self.new notes.old.items notes.new.items (heard self.old worker message)) }
-        ensures err { OnErr result (IsCutOff self.old self.new notes.old.items notes.new.items) }
+        ensures ok { OnOk result (Goes self.new notes.old notes.new (heard self.old worker message)) }
+        ensures err { OnErr result (IsCutOff self.old self.new notes.old notes.new) }
     {
         match message {
             Message::Accepted { id } => self.accepted(worker, id, notes),
@@ -333,28 +328,23 @@ impl Tables {
                 self.refused(worker, id, Outcome::Worker { error, reason }, notes)
             }
             Message::Notice { target, event } => self.noticed(worker, &target, &event, notes),
-            Message::Packet { .. } => Ok(notes.push(Note::Stray { worker })?),
-            Message::Log { level, text } => Ok(notes.push(Note::Log {
+            Message::Packet { .. } => notes.push(Note::Stray { worker }),
+            Message::Log { level, text } => notes.push(Note::Log {
                 worker,
                 level,
                 text,
-            })?),
-            Message::Unexpected => Ok(notes.push(Note::Unexpected { worker })?),
+            }),
+            Message::Unexpected => notes.push(Note::Unexpected { worker }),
         }
     }
 
     // The response to a request has come, and accepts it.
-    fn accepted(
-        &mut self,
-        worker: WorkerKey,
-        id: u32,
-        notes: &mut Vec<Note>,
-    ) -> Result<(), NoMemory>
-        ensures ok { OnOk result (Goes self.new notes.old.items notes.new.items (accepted_response self.old worker id (pending self.old.requests worker id))) }
-        ensures err { OnErr result (IsCutOff self.old self.new notes.old.items notes.new.items) }
+    fn accepted(&mut self, worker: WorkerKey, id: u32, notes: &mut Notes) -> Result<(), NoMemory>
+        ensures ok { OnOk result (Goes self.new notes.old notes.new (accepted_response self.old worker id (pending self.old.requests worker id))) }
+        ensures err { OnErr result (IsCutOff self.old self.new notes.old notes.new) }
     {
         let Some(request) = self.requests.pending(worker, id) else {
-            return Ok(notes.push(Note::Late { worker, id })?);
+            return notes.push(Note::Late { worker, id });
         };
         let call = request.call;
         let object = request.makes.copy(self.alloc)?;
@@ -379,13 +369,13 @@ impl Tables {
         worker: WorkerKey,
         id: u32,
         outcome: Outcome,
-        notes: &mut Vec<Note>,
+        notes: &mut Notes,
     ) -> Result<(), NoMemory>
-        ensures ok { OnOk result (Goes self.new notes.old.items notes.new.items (refused_response self.old worker id outcome (pending self.old.requests worker id))) }
-        ensures err { OnErr result (IsCutOff self.old self.new notes.old.items notes.new.items) }
+        ensures ok { OnOk result (Goes self.new notes.old notes.new (refused_response self.old worker id outcome (pending self.old.requests worker id))) }
+        ensures err { OnErr result (IsCutOff self.old self.new notes.old notes.new) }
     {
         let Some(request) = self.requests.pending(worker, id) else {
-            return Ok(notes.push(Note::Late { worker, id })?);
+            return notes.push(Note::Late { worker, id });
         };
         let call = request.call;
         notes.push(Note::Settled { call, outcome })?;
@@ -399,10 +389,10 @@ impl Tables {
         worker: WorkerKey,
         target: &Text,
         event: &Text,
-        notes: &mut Vec<Note>,
+        notes: &mut Notes,
     ) -> Result<(), NoMemory>
-        ensures ok { OnOk result (Goes self.new notes.old.items notes.new.items (noticed self.old worker target.now event.now)) }
-        ensures err { OnErr result (IsCutOff self.old self.new notes.old.items notes.new.items) }
+        ensures ok { OnOk result (Goes self.new notes.old notes.new (noticed self.old worker target.now event.now)) }
+        ensures err { OnErr result (IsCutOff self.old self.new notes.old notes.new) }
     {
         let says_running = target.as_str() == "worker" && event.as_str() == "running";
         match self.slots.of(worker) {
@@ -419,7 +409,7 @@ impl Tables {
                 self.slots.set_running(worker);
                 Ok(())
             }
-            _ => Ok(notes.push(Note::Stray { worker })?),
+            _ => notes.push(Note::Stray { worker }),
         }
     }
 

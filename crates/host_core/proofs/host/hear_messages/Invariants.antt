@@ -5,4 +5,4 @@ use Rattle.host_core.proofs.host.hear_messages.Given as goal
 
 -- the messages so far were heard
 abbrev pub invariant-loop-message : goal.invariant-loop-message
-invariant-loop-message l = Goes l.tables l.initial.notes.items l.notes.items (steps l.initial.tables (map (Says l.worker) l.yielded))
+invariant-loop-message l = Goes l.tables l.initial.notes l.notes (steps l.initial.tables (map (Says l.worker) l.yielded))
