@@ -12,3 +12,5 @@ pub mod HostLemmas
 pub mod LongerLemmas
 pub mod ObjectsLemmas
 pub mod NotesLemmas
+pub mod IndexLemmas
+pub mod RequestsLemmas

@@ -11,3 +11,4 @@ pub mod Apply
 pub mod Objects
 pub mod Notes
 pub mod Rows
+pub mod Indexes

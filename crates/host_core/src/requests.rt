@@ -1,8 +1,14 @@
 ghost use Rattle.std.specs.Prelude.{◌≡◌, ℕ, ◌+◌, ◌^◌, ◌<◌, List, [], ◌∷◌, ◌++◌, length, IsTrue, OnOk, OnErr, option_copied, false};
-ghost use Rattle.host_core.specs.State.{is_being_made, issued, pending, settle_if, settled};
+ghost use Rattle.host_core.specs.Indexes.{IsOnlyPlace, waits_as};
+ghost use Rattle.host_core.specs.State.{is_being_made, issued, pending, settled};
+
+mod names;
+mod places;
 
 use crate::objects::Object;
 use ms_base::{CallKey, NoMemory, WorkerKey};
+use names::NamesBeingMade;
+use places::Places;
 use std::alloc::Global;
 use std::marker::Model;
 
@@ -22,20 +28,23 @@ pub(crate) struct Request {
 }
 
 impl Request {
-    // Notes the response, if it is to this request.
-    fn settle_if(&mut self, worker: WorkerKey, id: u32)
-        ensures { self.new ≡ settle_if worker id self.old }
+    // Whether it is the one of this id on a channel, and has no response yet.
+    fn waits_as(&self, worker: WorkerKey, id: u32) -> bool
+        ensures { result ≡ waits_as worker id self.now }
     {
-        if self.channel == worker && self.id == id {
-            self.settled = true;
-        }
+        self.channel == worker && self.id == id && !self.settled
     }
 }
 
 /// The requests that went to workers, in order, settled ones too.
 #[derive(Debug, Drop)]
 pub(crate) struct Requests {
+    alloc: Global,
     items: Vec<Request>,
+    /// Where each stands in `items`.
+    places: Places,
+    /// The names of those without a response.
+    names: NamesBeingMade,
 }
 
 impl Model for Requests {
@@ -45,6 +54,10 @@ impl Model for Requests {
     ghost Value = { List Request };
 
     ghost view = { λ r. r.items.items };
+
+    ghost use Rattle.host_core.specs.Indexes.{AreIndexed};
+
+    ghost invariant = { λ r. AreIndexed r.items.items r.places r.names };
 }
 
 impl Requests {
@@ -52,7 +65,10 @@ impl Requests {
         ensures { result ≡ [] }
     {
         Requests {
+            alloc,
             items: Vec::new(alloc),
+            places: Places::new(alloc),
+            names: NamesBeingMade::new(alloc),
         }
     }
 
@@ -60,10 +76,7 @@ impl Requests {
     pub(crate) fn issued(&self, worker: WorkerKey) -> usize
         ensures { result ≡ issued self.now worker }
     {
-        self.items
-            .iter()
-            .filter(|request| request.channel == worker)
-            .count()
+        self.places.issued(worker)
     }
 
     /// The id of the next request on a channel.
@@ -81,6 +94,12 @@ impl Requests {
         ensures ok { OnOk result (self.new ≡ self.old ++ request ∷ []) }
         ensures err { OnErr result (self.new ≡ self.old) }
     {
+        self.items.reserve(1)?;
+        self.names
+            .make_room(self.alloc, request.makes.name.as_slice())?;
+        self.places
+            .add(self.alloc, request.channel, self.items.len())?;
+        self.names.raise(request.makes.name.as_slice());
         self.items.push(request)?;
         Ok(())
     }
@@ -89,24 +108,34 @@ impl Requests {
     pub(crate) fn is_making(&self, name: &[u8]) -> bool
         ensures { result ≡ is_being_made self.now name.now }
     {
-        self.items.iter().any(|request| !request.settled && request.makes.name.as_slice() == name)
+        self.names.count(name) > 0
     }
 
     /// The request of this id on a channel, while it has no response.
     pub(crate) fn pending(&self, worker: WorkerKey, id: u32) -> Option<&Request>
         ensures { option_copied result ≡ pending self.now worker id }
     {
-        self.items.iter().find(|request| request.channel == worker
-            && request.id == id
-            && !request.settled)
+        let place = self.place_of(worker, id)?;
+        Some(&self.items[place])
     }
 
     /// Notes that the response has come to the request of this id on a channel.
     pub(crate) fn settle(&mut self, worker: WorkerKey, id: u32)
         ensures { self.new ≡ settled self.old worker id }
     {
-        for request in self.items.iter_mut() {
-            request.settle_if(worker, id);
+        if let Some(place) = self.place_of(worker, id) {
+            let request = &mut self.items[place];
+            request.settled = true;
+            self.names.lower(request.makes.name.as_slice());
         }
+    }
+
+    // Where the request of this id on a channel stands, while it has no response.
+    fn place_of(&self, worker: WorkerKey, id: u32) -> Option<usize>
+        ensures { IsOnlyPlace (waits_as worker id) self.now result }
+    {
+        let place = self.places.get(worker, id)?;
+        let request = self.items.get(place)?;
+        request.waits_as(worker, id).then_some(place)
     }
 }
