@@ -44,3 +44,13 @@ count_rose fails made far fails_now =
           rw (later, one_call_later fails made, fails_now) (omega arith)
       | inr over ↦ let not_now = far (made + 1) (omega arith) in grind (arith, fails_now, not_now)
     ]
+
+pub count_stands : (fails : List ℕ) (made : ℕ) → made < 2 ^ 64 → is_to_fail fails (made + 1) ≡ false
+    → failed_calls fails (min (made + 1) (2 ^ 64 - 1)) ≡ failed_calls fails made
+count_stands fails made fits none =
+    elim (cases_lt made (2 ^ 64 - 1)) [
+      | inl under ↦
+          let later : min (made + 1) (2 ^ 64 - 1) ≡ made + 1 = omega arith in
+          rw (later, one_call_later fails made, none) (omega arith)
+      | inr over ↦ ap (failed_calls fails) (omega arith)
+    ]

@@ -37,6 +37,7 @@ impl Calls {
         ensures counted { self.new ≡ after_call self.old }
         ensures never_falls { fault_count self.old ≤ fault_count self.new }
         ensures rose { result ≡ true → Rose (fault_count self.old) (fault_count self.new) }
+        ensures still { result ≡ false → fault_count self.new ≡ fault_count self.old }
     {
         let made = self.made;
         self.made = made.saturating_add(1);

@@ -1,11 +1,11 @@
 -- How a text is read from a source, piece by piece.
-use Rattle.std.proofs.Common.{◌≡◌, ℕ, ◌+◌, ◌-◌, ◌≤◌, ◌<◌, List, [], ◌∷◌, ◌++◌, length, min, Option, Some, None, refl, sym, ap, ◌∙◌, subst, arith, append_assoc, length-append}
+use Rattle.std.proofs.Common.{◌≡◌, ℕ, ◌+◌, ◌≤◌, ◌<◌, List, [], ◌∷◌, ◌++◌, length, Option, Some, None, refl, sym, ap, ◌∙◌, arith, append_assoc, length-append}
 use Rattle.std.proofs.lemmas.List.{append-nil}
 use Rattle.ms_devices.specs.Told.{Tells}
 use Rattle.ms_devices.proofs.ToldLemmas.{Tells-same, Tells-then, Tells-weaker}
 use Rattle.host_core.specs.JournalText.{max_journal}
 use Rattle.run_top.specs.Reading.{Moves, PassesLimit}
-use Rattle.run_top.specs.Replay.{StopsPastLimit}
+use Rattle.run_top.specs.Replay.{ReadsFront, StopsPastLimit}
 
 pub moved-none : (text : List ℕ) (held : Option (List ℕ)) → Tells (Moves text text) held held
 moved-none text held = Tells-same (Moves text text) (λ a. ([], sym (append-nil text), refl)) held
@@ -57,3 +57,14 @@ stopped text grown h i empty few = Tells-weaker (Moves text grown) StopsPastLimi
 pub stopped-behind : (text grown : List ℕ) (room : ℕ) (h i j : Option (List ℕ)) → text ≡ [] → room + length grown ≤ max_journal + 1 → Tells (Moves text grown) h i
     → Tells (λ before now. length before ≤ length now + room) i j → Tells StopsPastLimit h j
 stopped-behind text grown room h i j empty few = Tells-then (Moves text grown) (λ b c. length b ≤ length c + room) StopsPastLimit (λ a b c p q. omega (arith, moved-length text grown a b empty p)) h i j
+
+-- a read behind others, and what all of them read
+pub front_behind : (text grown : List ℕ) (first middle last : Option (List ℕ)) → Tells (Moves text grown) first middle → Tells ReadsFront middle last → Tells ReadsFront first last
+front_behind text grown None None None before now = tt
+front_behind text grown None None (Some c) before now = absurd now
+front_behind text grown None (Some b) last before now = absurd before
+front_behind text grown (Some a) None None before now = tt
+front_behind text grown (Some a) None (Some c) before now = absurd now
+front_behind text grown (Some a) (Some b) None before now = tt
+front_behind text grown (Some a) (Some b) (Some c) before now =
+    (before.0 ++ now.0, before.2 ∙ (ap (λ x. before.0 ++ x) now.1 ∙ sym (append_assoc before.0 now.0 c)))

@@ -1,5 +1,5 @@
 -- What a refused text is told as (this project's own).
-use Rattle.std.specs.Prelude.{◌≡◌, ℕ, ⊤}
+use Rattle.std.specs.Prelude.{◌≡◌, ⊤}
 use Rattle.run_top.specs.declared.replay.TextFault.{TextFault}
 use Rattle.run_top.specs.declared.replay.TextFault.TheVariants as text_fault
 use Rattle.run_top.specs.Replay.{Answer, Bad}

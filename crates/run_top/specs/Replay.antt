@@ -3,7 +3,6 @@ use Rattle.std.specs.Prelude.{◌≡◌, ◌⊎◌, ◌≤◌, ℕ, ◌+◌, ◌
 use Rattle.ms_base.specs.declared.entry.Entry.{Entry}
 use Rattle.ms_base.specs.declared.outcome.Code.{Code}
 use Rattle.ms_base.specs.declared.outcome.Code.TheVariants as code
-use Rattle.ms_devices.specs.Causes.{Rose}
 use Rattle.ms_devices.specs.Told.{Tells, AddsPrefix}
 use Rattle.host_core.specs.JournalText.{max_journal}
 use Rattle.host_core.specs.Lines.{space, line_feed, spaced, code_word, transcript_of}
@@ -68,6 +67,18 @@ ToldBad held holds had got sink_rose = Tells (λ text rest. (rest ≡ []) × ((l
 -- The sink failed: a prefix of the transcript was written.
 abbrev pub CutShort : Option (List ℕ) → Option (List ℕ) → Option (List ℕ) → Option (List ℕ) → Type 0
 CutShort held holds had got = Tells (λ text rest. (rest ≡ []) × ((lines : List ℕ) × (answer_of text ≡ Lines lines) × Tells (AddsPrefix lines) had got)) held holds
+
+-- What was read is a front of the text.
+abbrev pub ReadsFront : List ℕ → List ℕ → Type 0
+ReadsFront text rest = (front : List ℕ) × (text ≡ front ++ rest)
+
+-- Nothing of what was written before is gone.
+abbrev pub AddsBehind : List ℕ → List ℕ → Type 0
+AddsBehind before now = (piece : List ℕ) × (now ≡ before ++ piece)
+
+-- Exactly one byte past the limit was read.
+abbrev pub ReadsOnePast : List ℕ → List ℕ → Type 0
+ReadsOnePast text rest = length text ≡ length rest + (max_journal + 1)
 
 -- No more than one byte past the limit was read.
 abbrev pub StopsPastLimit : List ℕ → List ℕ → Type 0

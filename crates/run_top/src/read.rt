@@ -3,7 +3,7 @@ ghost use Rattle.ms_devices.specs.Causes.{Rose};
 ghost use Rattle.ms_devices.specs.Told.{Tells};
 ghost use Rattle.host_core.specs.JournalText.{max_journal};
 ghost use Rattle.run_top.specs.Reading.{Moves, PassesLimit};
-ghost use Rattle.run_top.specs.Replay.{StopsPastLimit};
+ghost use Rattle.run_top.specs.Replay.{ReadsFront, ReadsOnePast, StopsPastLimit};
 
 use ms_base::Bytes;
 use ms_devices::Source;
@@ -30,8 +30,11 @@ pub(crate) fn read_text<S: Source>(alloc: Global, source: &mut S) -> Result<Byte
     ensures ok { IfOk result (λ text. Tells (λ before now. (before ≡ text) × (now ≡ [])) (S.holds source.old) (S.holds source.new)) }
     ensures limit { IfOk result (λ text. length text ≤ max_journal) }
     ensures long { IsErrOf result ReadFault.TooLong → Tells PassesLimit (S.holds source.old) (S.holds source.new) }
+    ensures one_past { IsErrOf result ReadFault.TooLong → Tells ReadsOnePast (S.holds source.old) (S.holds source.new) }
     ensures failed { IsErrOf result ReadFault.Failed → Rose (S.faults source.old) (S.faults source.new) }
+    ensures still { ¬ IsErrOf result ReadFault.Failed → S.faults source.new ≡ S.faults source.old }
     ensures count { S.faults source.old ≤ S.faults source.new }
+    ensures front { Tells ReadsFront (S.holds source.old) (S.holds source.new) }
     ensures stops { Tells StopsPastLimit (S.holds source.old) (S.holds source.new) }
 {
     let mut text = Bytes::new(alloc);
@@ -52,14 +55,18 @@ fn zeroes(alloc: Global, count: usize) -> Result<Vec<u8>, ReadFault>
 }
 
 // Adds what the source holds to an empty text, piece by piece, until the text is longer than it may be.
+#[tactic(auto, using(crate::proofs::ReadLemmas::front_behind))]
 fn fill<S: Source>(source: &mut S, place: &mut [u8], text: &mut Bytes) -> Result<(), ReadFault>
     requires place { 0 < length place.old }
     requires empty { text.old ≡ [] }
     ensures ok { OnOk result (Tells (λ before now. (before ≡ text.new) × (now ≡ [])) (S.holds source.old) (S.holds source.new)) }
     ensures limit { OnOk result (length text.new ≤ max_journal) }
     ensures long { IsErrOf result ReadFault.TooLong → Tells PassesLimit (S.holds source.old) (S.holds source.new) }
+    ensures one_past { IsErrOf result ReadFault.TooLong → Tells ReadsOnePast (S.holds source.old) (S.holds source.new) }
     ensures failed { IsErrOf result ReadFault.Failed → Rose (S.faults source.old) (S.faults source.new) }
+    ensures still { ¬ IsErrOf result ReadFault.Failed → S.faults source.new ≡ S.faults source.old }
     ensures count { S.faults source.old ≤ S.faults source.new }
+    ensures front { Tells ReadsFront (S.holds source.old) (S.holds source.new) }
     ensures stops { Tells StopsPastLimit (S.holds source.old) (S.holds source.new) }
 {
     while text.len() <= MAX_JOURNAL {
@@ -83,7 +90,9 @@ fn read_piece<S: Source>(
     ensures room { IfOk result (λ n. n ≤ length place.old) }
     ensures end { IfOk result (λ n. n ≡ 0 → Tells (λ before _. before ≡ []) (S.holds source.old) (S.holds source.new)) }
     ensures failed { IsErrOf result ReadFault.Failed → Rose (S.faults source.old) (S.faults source.new) }
+    ensures still { ¬ IsErrOf result ReadFault.Failed → S.faults source.new ≡ S.faults source.old }
     ensures count { S.faults source.old ≤ S.faults source.new }
+    ensures front { Tells ReadsFront (S.holds source.old) (S.holds source.new) }
     ensures only { IfErr result (λ fault. (fault ≡ ReadFault.Failed) ⊎ (fault ≡ ReadFault.NoMemory)) }
     ensures stops { Tells (λ before now. length before ≤ length now + length place.old) (S.holds source.old) (S.holds source.new) }
 {

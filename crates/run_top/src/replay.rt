@@ -1,10 +1,10 @@
-ghost use Rattle.std.specs.Prelude.{◌≡◌, ◌⊎◌, ℕ, ◌≤◌, length, IfOk, IfErr, IsTrue, ◌++◌};
+ghost use Rattle.std.specs.Prelude.{◌≡◌, ◌≢◌, ◌⊎◌, ℕ, ◌≤◌, length, IfOk, IfErr, IsTrue, ◌++◌};
 ghost use Rattle.host_core.specs.JournalText.{max_journal};
 ghost use Rattle.ms_devices.specs.Causes.{Rose};
 ghost use Rattle.ms_devices.specs.Told.{Tells, AddsPrefix};
 ghost use Rattle.run_top.specs.Answers.{IsRefusedAs};
 ghost use Rattle.run_top.specs.Reading.{PassesLimit};
-ghost use Rattle.run_top.specs.Replay.{Lines, answer_of, bad_line, is_replay_status, is_silent_status, Done, ToldBad, CutShort, StopsPastLimit};
+ghost use Rattle.run_top.specs.Replay.{Lines, answer_of, bad_line, is_replay_status, is_silent_status, Done, ToldBad, CutShort, ReadsFront, ReadsOnePast, AddsBehind, StopsPastLimit};
 
 use crate::apply::{StopFault, transcript};
 use crate::journal::{JournalFault, read_journal};
@@ -43,13 +43,23 @@ pub fn replay_top<S: Source, K: Sink>(alloc: Global, source: &mut S, sink: &mut 
 
     // 6: the text is longer than a journal may be.
     ensures full { result.0 ≡ 6 → Tells PassesLimit (S.holds source.old) (S.holds source.new) }
+    ensures one_past { result.0 ≡ 6 → Tells ReadsOnePast (S.holds source.old) (S.holds source.new) }
 
     // On 4, 6 and 9 nothing is written.
     ensures silent { IsTrue (is_silent_status result.0) → (K.got sink.new ≡ K.got sink.old) × (K.faults sink.new ≡ K.faults sink.old) }
+    ensures same_sink { IsTrue (is_silent_status result.0) → sink.new ≡ sink.old }
 
     // Not more is read than one byte past the limit.
     ensures stops { Tells StopsPastLimit (S.holds source.old) (S.holds source.new) }
     ensures counts { (S.faults source.old ≤ S.faults source.new) × (K.faults sink.old ≤ K.faults sink.new) }
+
+    // The source has a fault at 4 alone, the sink at 3 and 5 alone.
+    ensures read_still { result.0 ≢ 4 → S.faults source.new ≡ S.faults source.old }
+    ensures write_still { result.0 ≢ 3 → result.0 ≢ 5 → K.faults sink.new ≡ K.faults sink.old }
+
+    // At each status a front of what the source held was read, and what the sink had got before stands.
+    ensures front { Tells ReadsFront (S.holds source.old) (S.holds source.new) }
+    ensures behind { Tells AddsBehind (K.got sink.old) (K.got sink.new) }
 {
     let text = match read_text(alloc, source) {
         Ok(text) => text,
@@ -69,8 +79,10 @@ fn write_lines<K: Sink>(sink: &mut K, lines: &[u8]) -> Status
     ensures statuses { (result.0 ≡ 0) ⊎ (result.0 ≡ 5) }
     ensures done { result.0 ≡ 0 → Tells (λ before now. now ≡ before ++ lines.now) (K.got sink.old) (K.got sink.new) }
     ensures rose { result.0 ≡ 5 → Rose (K.faults sink.old) (K.faults sink.new) }
+    ensures still { result.0 ≡ 0 → K.faults sink.new ≡ K.faults sink.old }
     ensures cut_short { result.0 ≡ 5 → Tells (AddsPrefix lines.now) (K.got sink.old) (K.got sink.new) }
     ensures count { K.faults sink.old ≤ K.faults sink.new }
+    ensures behind { Tells AddsBehind (K.got sink.old) (K.got sink.new) }
 {
     match sink.write(lines) {
         Ok(()) => Status(0),
@@ -84,7 +96,9 @@ fn write_bad_line<K: Sink>(alloc: Global, sink: &mut K, line: u32, code: Code) -
     ensures told { result.0 ≡ 3 → Tells (λ before now. now ≡ before ++ bad_line line code) (K.got sink.old) (K.got sink.new)
         ⊎ (Rose (K.faults sink.old) (K.faults sink.new) × Tells (AddsPrefix (bad_line line code)) (K.got sink.old) (K.got sink.new)) }
     ensures silent { result.0 ≡ 9 → (K.got sink.new ≡ K.got sink.old) × (K.faults sink.new ≡ K.faults sink.old) }
+    ensures same { result.0 ≡ 9 → sink.new ≡ sink.old }
     ensures count { K.faults sink.old ≤ K.faults sink.new }
+    ensures behind { Tells AddsBehind (K.got sink.old) (K.got sink.new) }
 {
     let Ok(text) = bad_line(alloc, line, code) else {
         return Status(9);

@@ -1,6 +1,5 @@
-use Rattle.std.proofs.Common.{◌≡◌, ◌+◌, ◌++◌, List, ◌∷◌, [], length, Err, ap, sym, ◌∙◌, append_assoc, subst, false}
+use Rattle.std.proofs.Common.{◌≡◌, ◌+◌, ◌++◌, ◌∷◌, [], length, Err, ap, sym, ◌∙◌, append_assoc}
 use Rattle.std.specs.Vec.Iter.{into_iter_items}
-use Rattle.ms_base.specs.declared.entry.Entry.{Entry}
 use Rattle.host_core.specs.Run.{Journal}
 use Rattle.host_core.specs.State.{start}
 use Rattle.run_top.specs.Replay.{first_unbuilt}

@@ -8,7 +8,7 @@ use Rattle.run_top.proofs.read.fill.Given as goal
 abbrev pub invariant-loop-text : goal.invariant-loop-text
 invariant-loop-text g l = record {
   moved : Tells (Moves l.initial.text l.text) (g.S.Source.holds l.initial.source) (g.S.Source.holds l.source);
-  counted : g.S.Source.faults l.initial.source ≤ g.S.Source.faults l.source;
+  still : g.S.Source.faults l.source ≡ g.S.Source.faults l.initial.source;
   few : length l.text ≤ max_journal + 1;
 }
 
