@@ -155,39 +155,6 @@ pub on_ok_any : {T E : Type 0} (r : Result T E) (P : Type 0) → P → OnOk r P
 on_ok_any (Ok x) P p = p
 on_ok_any (Err e) P p = tt
 
--- ---- cut off for want of memory
-
-pub is_run-cut_off : (seed : ℕ) (es : List Entry) (size : ℕ) (spent : Bool) (tables tables' : State) (sent sent' : List Stream) (notes notes' : List Note)
-    → IsRun seed es spent size tables sent notes → IsCutOff tables tables' notes notes' → sent' ≡ sent
-    → IsRun seed es true size tables' sent' (take (length notes) notes')
-is_run-cut_off seed es size spent tables tables' sent sent' notes notes' run cut same = record {
-  seed_fits = run.seed_fits;
-  size_is = run.size_is;
-  within_limit = run.within_limit;
-  notes_are = cut.notes ∙ run.notes_are;
-  sent_is = λ w. ap (λ ss. stream_of ss w) same ∙ run.sent_is w;
-  slots_show = cut.slots ∙ run.slots_show;
-  tables_are = λ h. absurd (no_spent h);
-}
-  where
-    no_spent : true ≡ false → ⊥
-    no_spent h = cc
-
-pub is_run-spent : (seed : ℕ) (es : List Entry) (size : ℕ) (spent : Bool) (tables : State) (sent : List Stream) (notes : List Note)
-    → IsRun seed es spent size tables sent notes → IsRun seed es true size tables sent notes
-is_run-spent seed es size spent tables sent notes run = record {
-  seed_fits = run.seed_fits;
-  size_is = run.size_is;
-  within_limit = run.within_limit;
-  notes_are = run.notes_are;
-  sent_is = run.sent_is;
-  slots_show = run.slots_show;
-  tables_are = λ h. absurd (no_spent h);
-}
-  where
-    no_spent : true ≡ false → ⊥
-    no_spent h = cc
-
 -- ---- several messages
 
 -- the next step, behind the notes so far
@@ -318,21 +285,6 @@ fault_of-tested j e size unbuilt told built = by_spent j.spent built
 pub unbuilt-run : (seed : ℕ) (es : List Entry) (spent : Bool) (size : ℕ) (tables : State) (sent : List Stream) (notes : List Note) (e : Entry)
     → spent ≡ false → IsRun seed es spent size tables sent notes → is_unbuilt tables e ≡ is_unbuilt (state_of seed es) e
 unbuilt-run seed es spent size tables sent notes e unspent run = ap (λ t. is_unbuilt t e) (run.tables_are unspent) ∙ is_unbuilt-kept (state_of seed es) e
-
-pub no_fault-unspent : (j : Journal) (e : Entry) → fault_of j e ≡ None → j.spent ≡ false
-no_fault-unspent j e none = by_spent j.spent none
-  where
-    by_spent : (b : Bool) → cond b (Some fault.NoMemory) (cond (nat_lt max_journal (size_with j e)) (Some (fault.Full (min (size_with j e) max_told))) (cond (is_unbuilt (state_of j.seed j.entries) e) (Some fault.Unbuilt) None)) ≡ None → b ≡ false
-    by_spent false h = refl
-    by_spent true h = cc
-
-pub no_fault-limit : (j : Journal) (e : Entry) → fault_of j e ≡ None → size_with j e ≤ max_journal
-no_fault-limit j e none = by_spent j.spent (nat_lt max_journal (size_with j e)) refl none
-  where
-    by_spent : (b full : Bool) → nat_lt max_journal (size_with j e) ≡ full → cond b (Some fault.NoMemory) (cond full (Some (fault.Full (min (size_with j e) max_told))) (cond (is_unbuilt (state_of j.seed j.entries) e) (Some fault.Unbuilt) None)) ≡ None → size_with j e ≤ max_journal
-    by_spent true full f h = absurd (cc)
-    by_spent false true f h = absurd (cc)
-    by_spent false false f h = grind (arith, nat_tests)
 
 -- a host that is not spent, within its limit, refuses what is not built and nothing else
 pub fault_of-last : (j j' : Journal) (e : Entry) (size : ℕ) (unbuilt b : Bool) → j ≡ j' → size ≡ min (size_with j' e) max_told

@@ -266,11 +266,6 @@ stream_of-rests (x ∷ xs) w = elim (true_or_false (is_of w x)) [
       ∙ ap (λ (r : List ℕ). rest_of r) (sym (stream_of-later x xs w f))
 ]
 
--- so the stream of a worker that is kept begins with no whole frame
-pub no_frame-rests : (streams : List Stream) (w : WorkerKey) → begins_with_frame (stream_of (rests streams) w) ≡ false
-no_frame-rests streams w =
-    ap (λ (r : List ℕ). begins_with_frame r) (stream_of-rests streams w) ∙ no_frame-rest_of (stream_of streams w)
-
 pub with_stream-rests : (streams : List Stream) (w : WorkerKey) (bytes : List ℕ)
     → with_stream (rests streams) w (rest_of bytes) ≡ rests (with_stream streams w bytes)
 with_stream-rests [] w bytes = refl
@@ -286,10 +281,3 @@ with_stream-rests (x ∷ xs) w bytes = elim (true_or_false (is_of w x)) [
 
 pub rests-append : (streams : List Stream) (x : Stream) → rests (streams ++ x ∷ []) ≡ rests streams ++ rest_stream x ∷ []
 rests-append streams x = map-append rest_stream streams (x ∷ [])
-
--- a stream of which nothing has come
-pub rests-started : (streams : List Stream) (worker : WorkerKey)
-    → rests (streams ++ record { worker = worker; bytes = [] } ∷ []) ≡ rests streams ++ record { worker = worker; bytes = [] } ∷ []
-rests-started streams worker =
-    let new : Stream = record { worker = worker; bytes = [] } in
-    rests-append streams new ∙ ap (λ (r : List ℕ). rests streams ++ (let s : Stream = record { worker = worker; bytes = r } in s) ∷ []) rest_of-empty

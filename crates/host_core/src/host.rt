@@ -1,4 +1,4 @@
-ghost use Rattle.std.specs.Prelude.{◌≡◌, ◌≢◌, ℕ, ◌+◌, ◌^◌, ◌<◌, ◌≤◌, List, [], ◌∷◌, ◌++◌, length, true, false, Err, None, OnOk, OnErr, IfOk, IfSome, IfNone, IfErr, IsOkUnless, map, min};
+ghost use Rattle.std.specs.Prelude.{◌≡◌, ◌≢◌, ◌+◌, ◌^◌, ◌<◌, ◌≤◌, [], ◌∷◌, ◌++◌, length, true, false, Err, None, OnOk, OnErr, IfOk, IfSome, IfErr, IsOkUnless, map, min};
 ghost use Rattle.ms_base.specs.declared.keys.WorkerKey.{WorkerKey};
 ghost use Rattle.host_core.specs.Apply.{fault_of, size_with};
 ghost use Rattle.host_core.specs.JournalText.{journal_size, max_journal, max_told};
@@ -18,7 +18,7 @@ use std::alloc::Global;
 use std::marker::Model;
 
 /// How many bytes the text of a journal may have.
-const MAX_JOURNAL: u64 = 268_435_456;
+pub const MAX_JOURNAL: u64 = 268_435_456;
 
 /// A host: what it has heard, and what has followed. Contracts see its seed, its journal, and whether it has met
 /// want of memory; all that it shows is a function of these.

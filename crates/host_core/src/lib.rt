@@ -17,7 +17,7 @@ mod streams;
 mod tables;
 
 pub use frames::{frames_are_the_longest_split, frames_of_a_cut_stream};
-pub use host::Host;
+pub use host::{Host, MAX_JOURNAL};
 pub use journal_text::{entry_size, write_journal};
 pub use lines::{code_word, note_line};
 pub use note::Note;

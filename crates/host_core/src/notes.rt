@@ -1,4 +1,4 @@
-ghost use Rattle.std.specs.Prelude.{◌≡◌, ℕ, List, [], ◌∷◌, ◌++◌, length, take, OnOk, OnErr};
+ghost use Rattle.std.specs.Prelude.{◌≡◌, List, [], ◌∷◌, ◌++◌, length, take, OnOk, OnErr};
 ghost use Rattle.ms_base.specs.declared.keys.CallKey.{CallKey};
 ghost use Rattle.host_core.specs.Notes.{IsPlaceOf, place_of, verdict_at};
 ghost use Rattle.host_core.specs.Run.{settled_in, verdict_in};

@@ -1,4 +1,4 @@
-ghost use Rattle.std.specs.Prelude.{◌≡◌, ℕ, ◌+◌, ◌^◌, ◌<◌, List, [], ◌∷◌, ◌++◌, length, IsTrue, OnOk, OnErr, option_copied, false};
+ghost use Rattle.std.specs.Prelude.{◌≡◌, ◌+◌, ◌^◌, ◌<◌, List, [], ◌∷◌, ◌++◌, length, OnOk, OnErr, option_copied, false};
 ghost use Rattle.host_core.specs.Indexes.{IsOnlyPlace, waits_as};
 ghost use Rattle.host_core.specs.State.{is_being_made, issued, pending, settled};
 

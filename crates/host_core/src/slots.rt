@@ -1,4 +1,4 @@
-ghost use Rattle.std.specs.Prelude.{◌≡◌, ℕ, ◌-◌, ◌≤◌, List, [], ◌∷◌, ◌++◌, length, IsTrue, OnOk, OnErr, option_copied, option_map, slice_get};
+ghost use Rattle.std.specs.Prelude.{◌≡◌, ◌-◌, List, [], ◌∷◌, ◌++◌, length, OnOk, OnErr, option_copied, option_map, slice_get};
 ghost use Rattle.host_core.specs.Kept.{shown};
 ghost use Rattle.host_core.specs.State.{slot_of, slot_with, is_up_in, is_wanted_in};
 ghost use Rattle.host_core.specs.Step.{up_if, running_if, with_up, with_running};

@@ -1,4 +1,4 @@
-ghost use Rattle.std.specs.Prelude.{◌≡◌, ℕ, List, [], ◌∷◌, ◌++◌, OnOk, OnErr, IfOk, map, false, position, if◌then◌else◌};
+ghost use Rattle.std.specs.Prelude.{◌≡◌, List, [], ◌∷◌, ◌++◌, OnOk, OnErr, IfOk, map, false, position, if◌then◌else◌};
 ghost use Rattle.host_core.specs.Frames.{frames, rest_of, is_broken, begins_with_frame};
 ghost use Rattle.host_core.specs.Message.{message_of};
 ghost use Rattle.host_core.specs.State.{same_worker, stream_of, with_stream};

@@ -1,11 +1,11 @@
-ghost use Rattle.std.specs.Prelude.{◌≡◌, ℕ, ◌+◌, ◌^◌, ◌<◌, ◌≤◌, ◌&&◌, List, [], ◌∷◌, ◌++◌, length, OnOk, OnErr, IfOk, None, Some, false, map, option_copied, option_map, slice_get, codes, bytes_eq};
+ghost use Rattle.std.specs.Prelude.{◌≡◌, ◌+◌, ◌^◌, ◌<◌, ◌≤◌, ◌&&◌, [], ◌++◌, length, OnOk, OnErr, IfOk, None, Some, false, map, option_map, slice_get};
 ghost use Rattle.ms_base.specs.declared.keys.WorkerKey.{WorkerKey};
-ghost use Rattle.host_core.specs.Call.{first_refusal, refusal_by_worker, called, refused_call, accepted_worker, accepted_router, accepted_call, router_by_worker, new_router, requested, max_slots};
+ghost use Rattle.host_core.specs.Call.{first_refusal, refusal_by_worker, called, accepted_worker, accepted_router, accepted_call, router_by_worker, new_router, requested, max_slots};
 ghost use Rattle.host_core.specs.Frames.{frames};
 ghost use Rattle.host_core.specs.Kept.{HasRoom, Goes, IsCutOff, kept_bytes, shown};
 ghost use Rattle.host_core.specs.Message.{message_of};
 ghost use Rattle.host_core.specs.Run.{sent_of};
-ghost use Rattle.host_core.specs.State.{start, is_taken, is_up, is_wanted, named, slot_with, stream_of, pending, slot_of, issued, object_id};
+ghost use Rattle.host_core.specs.State.{start, is_taken, is_up, is_wanted, named, stream_of, pending, issued, object_id};
 ghost use Rattle.host_core.specs.Step.{started, heard, noticed, accepted_response, refused_response, is_unbuilt, is_unbuilt_op};
 
 use crate::calls::Calls;

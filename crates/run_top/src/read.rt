@@ -10,7 +10,7 @@ use ms_devices::Source;
 use std::alloc::Global;
 
 /// How many bytes the text of a journal may have.
-const MAX_JOURNAL: usize = 268_435_456;
+const MAX_JOURNAL: usize = host_core::MAX_JOURNAL as usize;
 
 /// How many bytes are read at once.
 const PIECE: usize = 65_536;

@@ -1,4 +1,4 @@
-ghost use Rattle.std.specs.Prelude.{◌≡◌, ℕ, List, [], ◌∷◌, ◌++◌, length, OnOk, OnErr, if◌then◌else◌};
+ghost use Rattle.std.specs.Prelude.{◌≡◌, [], ◌∷◌, ◌++◌, length, OnOk, OnErr, if◌then◌else◌};
 ghost use Rattle.ms_base.specs.declared.keys.WorkerKey.{WorkerKey};
 ghost use Rattle.host_core.specs.Indexes.{places_of, place_at};
 ghost use Rattle.host_core.specs.State.{same_worker};
