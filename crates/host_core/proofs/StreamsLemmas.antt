@@ -7,11 +7,11 @@ use Rattle.std.proofs.lemmas.List.Quantifiers.{position-Some}
 use Rattle.std.specs.List.{find, position_or_len}
 use Rattle.std.specs.Result.{OnOk}
 use Rattle.ms_base.specs.declared.keys.WorkerKey.{WorkerKey}
-use Rattle.host_core.specs.Frames.{rest_of, begins_with_frame}
+use Rattle.host_core.specs.Frames.{rest_of}
 use Rattle.host_core.specs.Kept.{rest_stream, rests}
 use Rattle.host_core.specs.State.{same_worker, bytes_in, stream_of, with_stream}
 use Rattle.host_core.specs.declared.streams.Stream.{Stream}
-use Rattle.host_core.proofs.FramesLemmas.{true_or_false, short-begins, rest_of-none, no_frame-rest_of}
+use Rattle.host_core.proofs.FramesLemmas.{true_or_false, short-begins, rest_of-none}
 
 abbrev pub is_of : WorkerKey → Stream → Bool
 is_of worker x = same_worker x.worker worker

@@ -26,10 +26,6 @@ passes : (b : Bool) (fault : RtpFault) (o : Option RtpFault) → cond b (Some fa
 passes true fault o e = absurd cc
 passes false fault o e = (refl, e)
 
-not_false : (b : Bool) → not b ≡ false → b ≡ true
-not_false true e = refl
-not_false false e = absurd cc
-
 two : (n : ℕ) → not (eqb n 2) ≡ false → n ≡ 2
 two n e = grind arith
 

@@ -1,6 +1,6 @@
 //! The parts of a packet that tell where the next one begins.
 
-ghost use Rattle.std.specs.Prelude.{◌≡◌, ◌+◌, ◌-◌, ◌*◌, ◌/◌, ◌%◌, ◌^◌, ◌<◌, ◌≤◌, ◌==◌, false, length, take, drop, IsTrue, IfSome, MatchOption};
+ghost use Rattle.std.specs.Prelude.{◌≡◌, ◌+◌, ◌*◌, ◌/◌, ◌%◌, ◌<◌, ◌≤◌, ◌==◌, false, length, take, drop, IsTrue, IfSome, MatchOption};
 ghost use Rattle.rtp_packet.specs.Fault.{csrc_count, behind_header, behind_csrcs, extension_len, is_bad_padding};
 ghost use Rattle.rtp_packet.specs.Reading.{extension_at, extension_value, without_padding};
 

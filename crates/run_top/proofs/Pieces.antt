@@ -1,6 +1,6 @@
 -- The pieces of a text between separators, and the test for UTF-8.
-use Rattle.std.proofs.Common.{◌≡◌, ◌≢◌, ℕ, suc, ◌+◌, ◌<◌, ◌≤◌, List, [], ◌∷◌, ◌++◌, Bool, false, eqb, get_or, length, refl, sym, ◌∙◌, ap, arith, take, drop, Option, Some, None, subst, inl, inr, ltb, ◌-◌}
-use Rattle.std.proofs.lemmas.Bool.{ne_eqb, false_from_ne_true, eq-eqb, or_parts, or_from, cases_lt, lt-ltb, ltb-true, cond-true}
+use Rattle.std.proofs.Common.{◌≡◌, ℕ, ◌+◌, ◌<◌, ◌≤◌, List, [], ◌∷◌, ◌++◌, Bool, false, eqb, length, refl, sym, ◌∙◌, ap, arith, take, drop, Option, Some, None, subst, inl, inr, ltb, ◌-◌}
+use Rattle.std.proofs.lemmas.Bool.{false_from_ne_true, eq-eqb, or_parts, cases_lt, lt-ltb, ltb-true, cond-true}
 use Rattle.std.proofs.lemmas.Option.{cond_some}
 use Rattle.std.proofs.lemmas.List.{take_rest}
 use Rattle.std.proofs.lemmas.List.Sums.{fails_before_first}
@@ -16,11 +16,6 @@ use Rattle.std.specs.Str.{IsUtf8, is_utf8}
 abbrev pub lacks : ℕ → List ℕ → Type 0
 lacks c xs = list_any (λ b. eqb b c) xs ≡ false
 
-pub lacks_by_index : (c : ℕ) (xs : List ℕ) → ((i : ℕ) → i < length xs → get_or xs i 0 ≢ c) → lacks c xs
-lacks_by_index c [] h = refl
-lacks_by_index c (x ∷ xs) h =
-    or_from _ _ (ne_eqb x c (h 0 (omega arith))) (lacks_by_index c xs (λ i l. h (suc i) (omega arith)))
-
 pub pieces_at : (c : ℕ) (xs ys : List ℕ) → lacks c xs → slice_split (λ b. eqb b c) (xs ++ c ∷ ys) ≡ xs ∷ slice_split (λ b. eqb b c) ys
 pieces_at c [] ys h = slice_split-cons_yes (λ b. eqb b c) c ys (eq-eqb c c refl)
 pieces_at c (x ∷ xs) ys h =
@@ -34,14 +29,6 @@ pieces_none c (x ∷ xs) h =
     let parts = or_parts (eqb x c) (list_any (λ b. eqb b c) xs) h in
     slice_split-cons_no (λ b. eqb b c) x xs parts.0
     ∙ ap (onto_first x) (pieces_none c xs parts.1)
-
--- the same of a list that is known to be in two parts
-pub pieces_from : (c : ℕ) (text xs ys : List ℕ) → text ≡ xs ++ c ∷ ys → ((i : ℕ) → i < length xs → get_or xs i 0 ≢ c)
-    → slice_split (λ b. eqb b c) text ≡ xs ∷ slice_split (λ b. eqb b c) ys
-pieces_from c text xs ys e h = ap (slice_split (λ b. eqb b c)) e ∙ pieces_at c xs ys (lacks_by_index c xs h)
-
-pub pieces_from_none : (c : ℕ) (text : List ℕ) → ((i : ℕ) → i < length text → get_or text i 0 ≢ c) → slice_split (λ b. eqb b c) text ≡ text ∷ []
-pieces_from_none c text h = pieces_none c text (lacks_by_index c text h)
 
 pub not_utf8 : (bs : List ℕ) → (IsUtf8 bs → ⊥) → is_utf8 bs ≡ false
 not_utf8 bs h = false_from_ne_true (is_utf8 bs) (λ e. h (IsUtf8-from_is_utf8 bs e))

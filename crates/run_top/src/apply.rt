@@ -1,9 +1,7 @@
-ghost use Rattle.std.specs.Prelude.{◌≡◌, ℕ, ◌+◌, ◌<◌, ◌≤◌, ◌^◌, List, [], ◌∷◌, ◌++◌, length, IfOk, IfErr, OnOk, false, None, Some, flat_map, min};
+ghost use Rattle.std.specs.Prelude.{◌≡◌, ◌<◌, ◌≤◌, ◌^◌, [], IfOk, IfErr, OnOk, false, None, flat_map};
 ghost use Rattle.host_core.specs.JournalText.{journal_size, max_journal};
-ghost use Rattle.host_core.specs.Lines.{note_line};
-ghost use Rattle.host_core.specs.Lines.{transcript_of};
+ghost use Rattle.host_core.specs.Lines.{note_line, transcript_of};
 ghost use Rattle.host_core.specs.State.{start};
-ghost use Rattle.run_top.specs.Gives.{told_line};
 ghost use Rattle.run_top.specs.Replay.{first_unbuilt};
 ghost use Rattle.run_top.specs.Applying.{IsStopped};
 

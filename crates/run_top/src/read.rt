@@ -1,4 +1,4 @@
-ghost use Rattle.std.specs.Prelude.{◌≡◌, ◌⊎◌, ℕ, ◌+◌, ◌≤◌, ◌<◌, List, [], ◌++◌, length, IfOk, IfErr, OnOk, IsErrOf};
+ghost use Rattle.std.specs.Prelude.{◌≡◌, ◌⊎◌, ◌+◌, ◌≤◌, ◌<◌, [], length, IfOk, IfErr, OnOk, IsErrOf};
 ghost use Rattle.ms_devices.specs.Causes.{Rose};
 ghost use Rattle.ms_devices.specs.Told.{Tells};
 ghost use Rattle.host_core.specs.JournalText.{max_journal};

@@ -1,4 +1,4 @@
-ghost use Rattle.std.specs.Prelude.{◌≡◌, ◌≢◌, ◌⊎◌, ℕ, ◌≤◌, length, IfOk, IfErr, IsTrue, ◌++◌};
+ghost use Rattle.std.specs.Prelude.{◌≡◌, ◌≢◌, ◌⊎◌, ◌≤◌, length, IfOk, IfErr, IsTrue, ◌++◌};
 ghost use Rattle.host_core.specs.JournalText.{max_journal};
 ghost use Rattle.ms_devices.specs.Causes.{Rose};
 ghost use Rattle.ms_devices.specs.Told.{Tells, AddsPrefix};

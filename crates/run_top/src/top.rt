@@ -1,4 +1,4 @@
-ghost use Rattle.std.specs.Prelude.{◌≡◌, ◌≢◌, ℕ, ◌≤◌, ◌↔◌, IsTrue, false, true};
+ghost use Rattle.std.specs.Prelude.{◌≡◌, ◌≢◌, ◌≤◌, ◌↔◌, IsTrue, false, true};
 ghost use Rattle.ms_devices.specs.Causes.{Rose};
 ghost use Rattle.ms_devices.specs.Told.{Tells};
 ghost use Rattle.run_top.specs.Reading.{PassesLimit};

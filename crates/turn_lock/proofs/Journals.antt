@@ -1,5 +1,5 @@
 -- Lists that begin one another, and entries that stand at their places.
-use Rattle.std.proofs.Common.{◌≡◌, ℕ, zero, suc, ◌+◌, ◌<◌, ◌≤◌, ◌≢◌, ltb, cond, true, false, Bool, List, [], ◌∷◌, ◌++◌, length, drop, slice_get, Some, sym, refl, ap, ◌∙◌, subst, arith, length-append, append-nil, append_assoc, add-zero, zero-add, eq-eqb, ne_eqb}
+use Rattle.std.proofs.Common.{◌≡◌, ℕ, zero, suc, ◌+◌, ◌<◌, ◌≤◌, ltb, cond, true, false, Bool, List, [], ◌∷◌, ◌++◌, length, drop, slice_get, Some, sym, refl, ap, ◌∙◌, subst, arith, length-append, append-nil, append_assoc, add-zero, zero-add, eq-eqb}
 use Rattle.std.proofs.lemmas.Bool.{ltb-true}
 use Rattle.std.proofs.lemmas.Bool.Decides.{nat_tests}
 use Rattle.std.proofs.Math.Seq.{drop-append_seam}
@@ -8,9 +8,6 @@ use Rattle.turn_lock.specs.Lists.{EachOnce, same, below, StartsWith, numbered, t
 
 pub same_eq : (p q : ℕ) → p ≡ q → same p q ≡ 1
 same_eq p q e = ap (λ (b : Bool). cond b 1 0) (eq-eqb p q e)
-
-pub same_ne : (p q : ℕ) → p ≢ q → same p q ≡ 0
-same_ne p q e = ap (λ (b : Bool). cond b 1 0) (ne_eqb p q e)
 
 pub below_one : (p n : ℕ) → below p n ≤ 1
 below_one p n = grind (arith, nat_tests)
