@@ -44,7 +44,7 @@ fn names_by_their_form(rt: HostRuntime) -> Result<(), Fail> {
     for bad in [b"".as_slice(), b"W1", b"w 1", b"w-1", &[b'a'; 65]] {
         assert!(rt; Name::read(rt.alloc(), bad).err() == Some(NameFault::BadName));
     }
-    assert!(rt; Name::read(rt.alloc(), &[b'z'; 64]).is_ok());
+    Name::read(rt.alloc(), &[b'z'; 64])?;
     Ok(())
 }
 
