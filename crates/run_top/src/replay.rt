@@ -1,8 +1,10 @@
-ghost use Rattle.std.specs.Prelude.{◌≡◌, ◌≢◌, ◌⊎◌, ◌≤◌, length, IfOk, IfErr, IsTrue, ◌++◌};
+ghost use Rattle.std.specs.Prelude.{◌≡◌, ◌≢◌, ◌⊎◌, ◌≤◌, length, Ok, IfOk, IfErr, IsTrue, ◌++◌};
 ghost use Rattle.host_core.specs.JournalText.{max_journal};
 ghost use Rattle.ms_devices.specs.Causes.{Rose};
 ghost use Rattle.ms_devices.specs.Told.{Tells, AddsPrefix};
 ghost use Rattle.run_top.specs.Answers.{IsRefusedAs};
+ghost use Rattle.run_top.specs.Gives.{Tells as TellsFault};
+ghost use Rattle.run_top.specs.Journal.{reading_of};
 ghost use Rattle.run_top.specs.Reading.{PassesLimit};
 ghost use Rattle.run_top.specs.Replay.{Lines, answer_of, bad_line, is_replay_status, is_silent_status, Done, ToldBad, CutShort, ReadsFront, ReadsOnePast, AddsBehind, StopsPastLimit};
 
@@ -12,7 +14,7 @@ use crate::read::{ReadFault, read_text};
 use crate::status::Status;
 use host_core::code_word;
 use itoa::Buffer;
-use ms_base::{Bytes, Code, NoMemory};
+use ms_base::{Bytes, Code, Entry, NoMemory};
 use ms_devices::{Sink, Source};
 use std::alloc::Global;
 
@@ -67,7 +69,7 @@ pub fn replay_top<S: Source, K: Sink>(alloc: Global, source: &mut S, sink: &mut 
         Err(ReadFault::TooLong) => return Status(6),
         Err(ReadFault::NoMemory) => return Status(9),
     };
-    match lines_of_text(alloc, text.as_slice()) {
+    match lines_of_text(alloc, text) {
         Ok(lines) => write_lines(sink, lines.as_slice()),
         Err(TextFault::Bad { line, code }) => write_bad_line(alloc, sink, line, code),
         Err(TextFault::NoMemory) => Status(9),
@@ -124,12 +126,12 @@ fn bad_line(alloc: Global, line: u32, code: Code) -> Result<Bytes, NoMemory>
 }
 
 // The transcript of the journal that a text is read as.
-fn lines_of_text(alloc: Global, text: &[u8]) -> Result<Bytes, TextFault>
-    requires { length text.now ≤ max_journal }
-    ensures ok { IfOk result (λ lines. answer_of text.now ≡ Lines lines) }
-    ensures err { IfErr result (IsRefusedAs (answer_of text.now)) }
+fn lines_of_text(alloc: Global, text: Bytes) -> Result<Bytes, TextFault>
+    requires { length text ≤ max_journal }
+    ensures ok { IfOk result (λ lines. answer_of text ≡ Lines lines) }
+    ensures err { IfErr result (IsRefusedAs (answer_of text)) }
 {
-    let (seed, entries) = match read_journal(alloc, text) {
+    let (seed, entries) = match read_and_let_go(alloc, text) {
         Ok(read) => read,
         Err(JournalFault::BadJournal { line, code }) => return Err(TextFault::Bad { line, code }),
         Err(JournalFault::NoMemory) => return Err(TextFault::NoMemory),
@@ -142,4 +144,12 @@ fn lines_of_text(alloc: Global, text: &[u8]) -> Result<Bytes, TextFault>
         }),
         Err(StopFault::NoMemory) => Err(TextFault::NoMemory),
     }
+}
+
+// The journal of a text, which takes no room any more while its entries are applied.
+fn read_and_let_go(alloc: Global, text: Bytes) -> Result<(u64, Vec<Entry>), JournalFault>
+    ensures ok { IfOk result (λ read. reading_of text ≡ Ok (read.0, read.1.items)) }
+    ensures bad { IfErr result (λ fault. TellsFault fault (reading_of text)) }
+{
+    read_journal(alloc, text.as_slice())
 }
