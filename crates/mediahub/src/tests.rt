@@ -66,6 +66,20 @@ impl Write for Writer {
     }
 }
 
+// It takes every piece, and can't hand it on.
+#[derive(Drop)]
+struct Held;
+
+impl Write for Held {
+    fn write(&mut self, buf: &[u8]) -> io::Result<usize> {
+        Ok(buf.len())
+    }
+
+    fn flush(&mut self) -> io::Result<()> {
+        Err(io::Error::from(ErrorKind::BrokenPipe))
+    }
+}
+
 fn three_reads<S: Source>(source: &mut S, place: &mut [u8; 4]) -> [Result<usize, Failed>; 3] {
     let mut other = [0; 4];
     [
@@ -100,6 +114,12 @@ fn a_piece_is_written_to_its_end(rt: HostRuntime) -> Result<(), Fail> {
     assert!(rt; answers.as_slice() == [Ok(()), Ok(()), Err(Failed)].as_slice());
     assert_eq!(rt; writer.taken.as_slice(), b"abcdef".as_slice());
     Ok(())
+}
+
+#[test]
+fn a_piece_that_is_not_flushed_is_a_fault(rt: HostRuntime) {
+    let answers = three_writes(&mut Output::new(Held));
+    assert!(rt; answers.as_slice() == [Err(Failed), Err(Failed), Err(Failed)].as_slice());
 }
 
 const RUNNING: &[u8] = b"journal 1 7
