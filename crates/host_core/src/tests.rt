@@ -26,54 +26,25 @@ fn name(alloc: Global, text: &[u8]) -> Result<Name, Fail> {
     Ok(Name::read(alloc, text)?)
 }
 
-fn enter(alloc: Global, host: &mut Host, bytes: &[u8], size: usize) -> Result<(), Fail> {
+// A host that has heard one more entry. It goes in and comes out by value: at a `?` none is left to be let go of.
+fn heard(mut host: Host, entry: Entry) -> Result<Host, Fail> {
+    host.apply(entry)?;
+    Ok(host)
+}
+
+fn heard_in_pieces(alloc: Global, host: Host, bytes: &[u8], size: usize) -> Result<Host, Fail> {
+    let mut host = host;
     for piece in bytes.chunks(size.max(1)) {
-        let bytes = Bytes::from_slice(alloc, piece)?;
-        host.apply(Entry::Chunk {
-            worker: FIRST,
-            bytes,
-        })?;
+        host = heard(host, chunk(alloc, FIRST, piece)?)?;
     }
-    Ok(())
+    Ok(host)
 }
 
-fn makes_a_router(alloc: Global, size: usize) -> Result<Bytes, Fail> {
-    let mut host = Host::new(alloc, 7)?;
-    host.apply(Entry::Call {
-        lane: 1,
-        op: Op::Worker {
-            name: name(alloc, b"w")?,
-            budget: 0,
-        },
-    })?;
-    host.apply(Entry::Spawned {
-        worker: FIRST,
-        up: true,
-    })?;
-    enter(alloc, &mut host, RUNNING, size)?;
-    host.apply(Entry::Call {
-        lane: 1,
-        op: Op::Router {
-            name: name(alloc, b"r")?,
-            worker: name(alloc, b"w")?,
-            options: Text::from_str(alloc, "{\"mediaCodecs\":[]}")?,
-        },
-    })?;
-    enter(alloc, &mut host, ACCEPTED, size)?;
-    let mut lines = Bytes::new(alloc);
-    for note in host.notes() {
-        note_line(alloc, note, &mut lines)?;
-    }
-    Ok(lines)
-}
-
-#[test]
-fn makes_a_worker_and_a_router_in_whatever_pieces(rt: HostRuntime) -> Result<(), Fail> {
-    for size in [1, 2, 3, 5, 43, 1000] {
-        let lines = makes_a_router(rt.alloc(), size)?;
-        assert_eq!(rt; lines.as_slice(), LINES, "in pieces of {size}");
-    }
-    Ok(())
+fn chunk(alloc: Global, worker: WorkerKey, bytes: &[u8]) -> Result<Entry, Fail> {
+    Ok(Entry::Chunk {
+        worker,
+        bytes: Bytes::from_slice(alloc, bytes)?,
+    })
 }
 
 fn worker_call(alloc: Global) -> Result<Entry, Fail> {
@@ -95,32 +66,55 @@ fn router_call(alloc: Global, lane: u32, router: &[u8]) -> Result<Entry, Fail> {
     })
 }
 
-fn starts_a_worker(alloc: Global) -> Result<Host, Fail> {
-    let mut host = Host::new(alloc, 7)?;
-    host.apply(worker_call(alloc)?)?;
-    host.apply(Entry::Spawned {
-        worker: FIRST,
-        up: true,
-    })?;
-    enter(alloc, &mut host, RUNNING, 1000)?;
-    Ok(host)
+// A host whose worker has said in pieces of this size that it runs.
+fn starts_a_worker(alloc: Global, size: usize) -> Result<Host, Fail> {
+    let call = worker_call(alloc)?;
+    let worker = FIRST;
+    let host = heard(Host::new(alloc, 7)?, call)?;
+    let host = heard(host, Entry::Spawned { worker, up: true })?;
+    heard_in_pieces(alloc, host, RUNNING, size)
 }
 
-// The lines of what follows when the worker says a payload.
-fn lines_of(alloc: Global, host: &mut Host, payload: &[u8]) -> Result<Bytes, Fail> {
-    let before = host.notes().len();
-    let length = u32::try_from(payload.len())?;
-    let mut bytes = Bytes::from_slice(alloc, &length.to_le_bytes())?;
-    bytes.extend_from_slice(payload)?;
-    host.apply(Entry::Chunk {
-        worker: FIRST,
-        bytes,
-    })?;
+// The lines of the notes behind so many.
+fn lines_behind(alloc: Global, host: &Host, before: usize) -> Result<Bytes, Fail> {
     let mut lines = Bytes::new(alloc);
     for note in host.notes().iter().skip(before) {
         note_line(alloc, note, &mut lines)?;
     }
     Ok(lines)
+}
+
+fn makes_a_router(alloc: Global, size: usize) -> Result<Bytes, Fail> {
+    let call = router_call(alloc, 1, b"r")?;
+    let host = heard(starts_a_worker(alloc, size)?, call)?;
+    let host = heard_in_pieces(alloc, host, ACCEPTED, size)?;
+    lines_behind(alloc, &host, 0)
+}
+
+#[test]
+fn makes_a_worker_and_a_router_in_whatever_pieces(rt: HostRuntime) -> Result<(), Fail> {
+    for size in [1, 2, 3, 5, 43, 1000] {
+        let lines = makes_a_router(rt.alloc(), size)?;
+        assert_eq!(rt; lines.as_slice(), LINES, "in pieces of {size}");
+    }
+    Ok(())
+}
+
+// A payload as it comes in the channel.
+fn framed(alloc: Global, payload: &[u8]) -> Result<Bytes, Fail> {
+    let length = u32::try_from(payload.len())?;
+    let mut bytes = Bytes::from_slice(alloc, &length.to_le_bytes())?;
+    bytes.extend_from_slice(payload)?;
+    Ok(bytes)
+}
+
+// The host when the worker has said a payload, and the lines of what followed.
+fn said(alloc: Global, host: Host, payload: &[u8]) -> Result<(Host, Bytes), Fail> {
+    let before = host.notes().len();
+    let bytes = framed(alloc, payload)?;
+    let host = heard_in_pieces(alloc, host, bytes.as_slice(), usize::MAX)?;
+    let lines = lines_behind(alloc, &host, before)?;
+    Ok((host, lines))
 }
 
 const SAID: [(&[u8], &[u8]); 50] = [
@@ -214,10 +208,11 @@ const SAID: [(&[u8], &[u8]); 50] = [
 
 #[test]
 fn reads_each_form_of_a_message(rt: HostRuntime) -> Result<(), Fail> {
-    let mut host = starts_a_worker(rt.alloc())?;
+    let mut host = starts_a_worker(rt.alloc(), 1000)?;
     for (payload, line) in &SAID {
-        let lines = lines_of(rt.alloc(), &mut host, payload)?;
+        let (now, lines) = said(rt.alloc(), host, payload)?;
         assert_eq!(rt; lines.as_slice(), *line, "for {payload:?}");
+        host = now;
     }
     Ok(())
 }
@@ -237,13 +232,14 @@ fn nested_notice(alloc: Global, depth: usize) -> Result<Bytes, Fail> {
 
 #[test]
 fn reads_no_text_that_nests_deeper_than_127(rt: HostRuntime) -> Result<(), Fail> {
-    let mut host = starts_a_worker(rt.alloc())?;
-    let within = nested_notice(rt.alloc(), 126)?;
-    let beyond = nested_notice(rt.alloc(), 127)?;
-    let lines = lines_of(rt.alloc(), &mut host, within.as_slice())?;
-    assert_eq!(rt; lines.as_slice(), b"stray 1 1\n".as_slice());
-    let lines = lines_of(rt.alloc(), &mut host, beyond.as_slice())?;
-    assert_eq!(rt; lines.as_slice(), b"unexpected 1 1\n".as_slice());
+    let mut host = starts_a_worker(rt.alloc(), 1000)?;
+    let table: [(usize, &[u8]); 2] = [(126, b"stray 1 1\n"), (127, b"unexpected 1 1\n")];
+    for (depth, line) in table {
+        let payload = nested_notice(rt.alloc(), depth)?;
+        let (now, lines) = said(rt.alloc(), host, payload.as_slice())?;
+        assert_eq!(rt; lines.as_slice(), line, "{depth} deep");
+        host = now;
+    }
     Ok(())
 }
 
@@ -278,22 +274,21 @@ const REFUSED: [(&[u8], &[u8]); 7] = [
     ),
 ];
 
+// The lines of what follows when the worker says a payload in answer to the request for a router.
+fn answered(alloc: Global, payload: &[u8]) -> Result<Bytes, Fail> {
+    let call = router_call(alloc, 1, b"r")?;
+    let host = heard(starts_a_worker(alloc, 1000)?, call)?;
+    let (_host, lines) = said(alloc, host, payload)?;
+    Ok(lines)
+}
+
 #[test]
 fn tells_the_reason_of_a_refusal(rt: HostRuntime) -> Result<(), Fail> {
     for (payload, line) in &REFUSED {
-        let mut host = starts_a_worker(rt.alloc())?;
-        host.apply(router_call(rt.alloc(), 1, b"r")?)?;
-        let lines = lines_of(rt.alloc(), &mut host, payload)?;
+        let lines = answered(rt.alloc(), payload)?;
         assert_eq!(rt; lines.as_slice(), *line, "for {payload:?}");
     }
     Ok(())
-}
-
-fn chunk(alloc: Global, worker: WorkerKey, bytes: &[u8]) -> Result<Entry, Fail> {
-    Ok(Entry::Chunk {
-        worker,
-        bytes: Bytes::from_slice(alloc, bytes)?,
-    })
 }
 
 const FAR: WorkerKey = WorkerKey {

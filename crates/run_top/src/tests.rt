@@ -23,6 +23,10 @@ open 2 router r 00000000-0000-4007-8000-000000000002
 settled 1 2 ok
 ";
 
+// The request for the router, of 102 bytes, as its worker gets it.
+const SENT: &[u8] =
+    b"\x66\0\0\0{\"id\":1,\"internal\":{\"routerId\":\"00000000-0000-4007-8000-000000000002\"},\"method\":\"worker.createRouter\"}";
+
 // Each refusal of `worker` and `router`, and responses that come late. A refused call draws no serial.
 const CALLS: &[u8] = b"journal 1 7
 call 1 worker w 0
@@ -121,21 +125,33 @@ fn answers_each_text_with_its_status(rt: HostRuntime) -> Result<(), Fail> {
 #[test]
 fn tells_which_side_failed(rt: HostRuntime) -> Result<(), Fail> {
     let alloc = rt.alloc();
-    let (status, got) = replayed(alloc, JOURNAL, &[2], &[])?;
-    assert_eq!(rt; status, Status(4));
-    assert_eq!(rt; got.len(), 0);
-    let (status, got) = replayed(alloc, JOURNAL, &[], &[1])?;
-    assert_eq!(rt; status, Status(5));
-    assert!(rt; LINES.starts_with(got.as_slice()));
-    let (status, got) = replayed(alloc, b"", &[], &[1])?;
-    assert_eq!(rt; status, Status(3));
-    assert!(rt; b"bad 1 head\n".starts_with(got.as_slice()));
+    let table: [(&[u8], &[u32], &[u32], u8, &[u8]); 3] = [
+        (JOURNAL, &[2], &[], 4, b""),
+        (JOURNAL, &[], &[1], 5, LINES),
+        (b"", &[], &[1], 3, b"bad 1 head\n"),
+    ];
+    for (text, reads, writes, status, whole) in table {
+        let (ended, got) = replayed(alloc, text, reads, writes)?;
+        assert_eq!(rt; ended, Status(status), "{text:?}");
+        // A write that fails adds half of its piece.
+        assert_eq!(rt; got.as_slice(), &whole[..whole.len() / 2], "{text:?}");
+    }
     Ok(())
+}
+
+// How the words end over the shortest journal.
+fn ended(alloc: Global, texts: &[&str]) -> Result<Status, Fail> {
+    let mut words = Vec::new(alloc);
+    for text in texts {
+        words.push(Text::from_str(alloc, text)?)?;
+    }
+    let mut source = MemSource::new(alloc, b"journal 1 7\n", Vec::new(alloc))?;
+    let mut sink = MemSink::new(alloc, Vec::new(alloc))?;
+    Ok(media_top(alloc, words.as_slice(), &mut source, &mut sink))
 }
 
 #[test]
 fn knows_one_command(rt: HostRuntime) -> Result<(), Fail> {
-    let alloc = rt.alloc();
     let table: [(&[&str], u8); 5] = [
         (&["replay"], 0),
         (&["replay", "now"], 2),
@@ -144,62 +160,76 @@ fn knows_one_command(rt: HostRuntime) -> Result<(), Fail> {
         (&["worker"], 2),
     ];
     for (texts, status) in table {
-        let mut words = Vec::new(alloc);
-        for text in texts {
-            words.push(Text::from_str(alloc, text)?)?;
-        }
-        let mut source = MemSource::new(alloc, b"journal 1 7\n", Vec::new(alloc))?;
-        let mut sink = MemSink::new(alloc, Vec::new(alloc))?;
-        let ended = media_top(alloc, words.as_slice(), &mut source, &mut sink);
-        assert_eq!(rt; ended, Status(status), "{texts:?}");
+        assert_eq!(rt; ended(rt.alloc(), texts)?, Status(status), "{texts:?}");
     }
     Ok(())
 }
 
-#[test]
-fn shows_what_it_sent_and_what_came_of_it(rt: HostRuntime) -> Result<(), Fail> {
-    let alloc = rt.alloc();
-    let (_seed, entries) = read_journal(alloc, JOURNAL)?;
+// A host of seed 7 that has heard the entries of a text.
+fn heard(alloc: Global, text: &[u8]) -> Result<Host, Fail> {
+    let (_seed, entries) = read_journal(alloc, text)?;
     let mut host = Host::new(alloc, 7)?;
     for entry in entries {
         host.apply(entry)?;
     }
-    let worker = WorkerKey {
-        slot: 1,
+    Ok(host)
+}
+
+fn sent(host: &Host, slot: u32) -> &[u8] {
+    host.sent(WorkerKey {
+        slot,
         generation: 1,
+    })
+}
+
+// What became of a call of the first lane, and what a slot shows.
+fn shown(host: &Host, place: u32, slot: u32) -> (Option<Verdict>, SlotLook) {
+    (host.verdict(CallKey { lane: 1, place }), host.slot(slot))
+}
+
+#[test]
+fn shows_what_it_sent_and_what_came_of_it(rt: HostRuntime) -> Result<(), Fail> {
+    let host = heard(rt.alloc(), JOURNAL)?;
+    let live = SlotLook::Live {
+        generation: 1,
+        sent: 106,
     };
-    // The request has 102 bytes.
-    assert_eq!(rt; host.sent(worker).len(), 106);
-    assert!(rt; host.sent(worker).starts_with(b"\x66\0\0\0{\"id\":1,"));
-    let sent = 106;
-    let generation = 1;
-    assert_eq!(rt; host.slot(1), SlotLook::Live { generation, sent });
-    assert_eq!(rt; host.slot(2), SlotLook::Idle);
-    let settled = CallKey { lane: 1, place: 2 };
-    assert_eq!(rt; host.verdict(settled), Some(Verdict::Done));
-    let unknown = CallKey { lane: 1, place: 3 };
-    assert_eq!(rt; host.verdict(unknown), None);
+    assert_eq!(rt; sent(&host, 1), SENT);
+    assert_eq!(rt; shown(&host, 2, 1), (Some(Verdict::Done), live));
+    assert_eq!(rt; shown(&host, 3, 2), (None, SlotLook::Idle));
+    Ok(())
+}
+
+#[test]
+fn counts_what_it_heard(rt: HostRuntime) -> Result<(), Fail> {
+    let host = heard(rt.alloc(), JOURNAL)?;
     assert_eq!(rt; host.size(), JOURNAL.len() as u64);
     assert_eq!(rt; host.journal().len(), 5);
     Ok(())
 }
 
+// A call for a worker of this number.
+fn worker_call(alloc: Global, number: u32) -> Result<Entry, Fail> {
+    let name = format!(in alloc; "w{number}")?;
+    let name = Name::read(alloc, name.as_bytes())?;
+    let op = Op::Worker { name, budget: 0 };
+    Ok(Entry::Call { lane: 1, op })
+}
+
+// A host that was called for so many workers.
+fn called_for_workers(alloc: Global, count: u32) -> Result<Host, Fail> {
+    let mut host = Host::new(alloc, 7)?;
+    for number in 0..count {
+        host.apply(worker_call(alloc, number)?)?;
+    }
+    Ok(host)
+}
+
 #[test]
 fn has_no_slot_for_a_65th_worker(rt: HostRuntime) -> Result<(), Fail> {
-    let alloc = rt.alloc();
-    let mut host = Host::new(alloc, 7)?;
-    for number in 0..65u32 {
-        let name = format!(in alloc; "w{number}")?;
-        let name = Name::read(alloc, name.as_bytes())?;
-        let op = Op::Worker { name, budget: 0 };
-        host.apply(Entry::Call { lane: 1, op })?;
-    }
-    let wanted = CallKey { lane: 1, place: 64 };
-    assert_eq!(rt; host.verdict(wanted), None);
-    assert_eq!(rt; host.slot(64), SlotLook::Want(1));
-    let refused = CallKey { lane: 1, place: 65 };
-    let code = Code::Slots;
-    assert_eq!(rt; host.verdict(refused), Some(Verdict::TypeError { code }));
-    assert_eq!(rt; host.slot(65), SlotLook::Idle);
+    let host = called_for_workers(rt.alloc(), 65)?;
+    let refused = Verdict::TypeError { code: Code::Slots };
+    assert_eq!(rt; shown(&host, 64, 64), (None, SlotLook::Want(1)));
+    assert_eq!(rt; shown(&host, 65, 65), (Some(refused), SlotLook::Idle));
     Ok(())
 }

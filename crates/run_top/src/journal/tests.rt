@@ -1,5 +1,6 @@
 use crate::{JournalFault, read_journal};
 use ms_base::{Code, Entry, Op};
+use std::alloc::Global;
 use std::test::Fail;
 
 const ALL_LINES: &[u8] =
@@ -90,18 +91,17 @@ const BAD: [(&[u8], u32, Code); 28] = [
     ),
 ];
 
+// The line and the code that a text is refused with.
+fn refusal(alloc: Global, text: &[u8]) -> Option<(u32, Code)> {
+    match read_journal(alloc, text) {
+        Err(JournalFault::BadJournal { line, code }) => Some((line, code)),
+        _ => None,
+    }
+}
+
 #[test]
 fn the_first_bad_line_is_told(rt: HostRuntime) {
     for (text, line, code) in BAD {
-        let told = match read_journal(rt.alloc(), text) {
-            Err(
-                JournalFault::BadJournal {
-                    line: at,
-                    code: why,
-                },
-            ) => at == line && why == code,
-            _ => false,
-        };
-        assert!(rt; told);
+        assert_eq!(rt; refusal(rt.alloc(), text), Some((line, code)), "{text:?}");
     }
 }

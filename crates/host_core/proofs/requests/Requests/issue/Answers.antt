@@ -1,6 +1,4 @@
-use Rattle.std.proofs.Common.{rules, ◌≡◌, ℕ, List, ◌++◌, [], ◌∷◌, length, sym, ap, ◌∙◌}
-use Rattle.host_core.specs.declared.requests.Request.{Request}
-use Rattle.host_core.specs.State.{issued}
+use Rattle.std.proofs.Common.{rules}
 use Rattle.host_core.proofs.RequestsLemmas.{indexed-more, indexed-roomy}
 use Rattle.host_core.proofs.requests.Requests.issue.Goals as goal
 

@@ -1,4 +1,4 @@
-use Rattle.std.proofs.Common.{Some, sym, ap}
+use Rattle.std.proofs.Common.{Some, sym}
 use Rattle.host_core.specs.Indexes.{waits_as}
 use Rattle.host_core.proofs.RequestsLemmas.{looked-up, only-if, placed}
 use Rattle.host_core.proofs.requests.Requests.place_of.Goals as goal

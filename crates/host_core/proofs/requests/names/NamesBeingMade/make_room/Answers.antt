@@ -1,4 +1,4 @@
-use Rattle.std.proofs.Common.{rules, ℕ}
+use Rattle.std.proofs.Common.{rules}
 use Rattle.host_core.specs.Indexes.{kept_count}
 use Rattle.host_core.proofs.IndexLemmas.{counts-kept, absent-count}
 use Rattle.host_core.proofs.requests.names.NamesBeingMade.make_room.Goals as goal

@@ -1,4 +1,4 @@
-use Rattle.std.proofs.Common.{rules, ℕ, ◌+◌}
+use Rattle.std.proofs.Common.{rules, ◌+◌}
 use Rattle.host_core.proofs.IndexLemmas.{count-changed}
 use Rattle.host_core.proofs.requests.names.NamesBeingMade.raise.Goals as goal
 

@@ -1,4 +1,4 @@
-use Rattle.std.proofs.Common.{rules, ◌≡◌, ℕ, List, [], ◌∷◌, ◌++◌}
+use Rattle.std.proofs.Common.{rules}
 use Rattle.host_core.proofs.IndexLemmas.{place-added, places-kept}
 use Rattle.host_core.proofs.HostLemmas.{on_err}
 use Rattle.host_core.proofs.requests.places.Places.add.Goals as goal
