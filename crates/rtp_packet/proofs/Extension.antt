@@ -1,7 +1,7 @@
 -- The header extension: what is read is written so, and what is written is read again.
-use Rattle.std.proofs.Common.{◌≡◌, ℕ, ◌+◌, ◌-◌, ◌*◌, ◌/◌, ◌≤◌, Bool, true, false, List, [], ◌∷◌, ◌++◌, length, take, drop, Option, Some, None, refl, sym, ap, ◌∙◌, arith}
+use Rattle.std.proofs.Common.{◌≡◌, ℕ, ◌+◌, ◌-◌, ◌*◌, ◌/◌, ◌≤◌, Bool, true, false, List, [], ◌∷◌, ◌++◌, length, take, drop, Option, Some, None, refl, sym, ap, ◌∙◌, arith, length-append}
 use Rattle.std.specs.Prelude.{is_some, IfSome}
-use Rattle.std.proofs.lemmas.List.{length-take, take_at, take_rest, drop-drop, take-append-drop}
+use Rattle.std.proofs.lemmas.List.{length-take, length-drop, take_at, take_rest, drop-drop, take-append-drop}
 use Rattle.byteorder.specs.Endian.{big_bytes, big_number}
 use Rattle.rtp_packet.specs.Packet.{AreBytes, IsExtension, header_extension}
 use Rattle.rtp_packet.specs.Fault.{extension_len}
@@ -46,6 +46,17 @@ extension_back true (a ∷ b ∷ c ∷ d ∷ rest) long fits =
     ∙ ap (λ (x : List ℕ). (((a ∷ b ∷ []) ++ x) ++ words) ++ behind) count_is
     ∙ ap (λ (t : List ℕ). a ∷ b ∷ c ∷ d ∷ (words ++ t)) (sym (drop-drop (4 * count) 4 whole))
     ∙ ap (λ (t : List ℕ). a ∷ b ∷ c ∷ d ∷ t) (take-append-drop (4 * count) rest)
+
+-- the extension is the front of these bytes
+pub extension_front : (there : Bool) (bytes : List ℕ) → extension_len there bytes ≤ length bytes → AreBytes bytes
+    → take (extension_len there bytes) bytes ≡ header_extension (extension_at there bytes)
+extension_front there bytes long fits =
+    let extension : List ℕ = header_extension (extension_at there bytes) in
+    let behind : List ℕ = drop (extension_len there bytes) bytes in
+    let parts : extension ++ behind ≡ bytes = extension_back there bytes long fits in
+    let len : length extension ≡ extension_len there bytes =
+    omega (arith, ap length parts, length-append extension behind, length-drop (extension_len there bytes) bytes) in
+    ap (take (extension_len there bytes)) (sym parts) ∙ take_at extension behind _ len
 
 pub extension_len_again : (e : Option (ℕ × List ℕ)) (rest : List ℕ) → IfSome e (λ e. IsExtension e.0 e.1)
     → extension_len (is_some e) (header_extension e ++ rest) ≡ length (header_extension e)

@@ -1,5 +1,5 @@
 -- The fixed header, and whole packets.
-use Rattle.std.proofs.Common.{◌≡◌, ℕ, zero, suc, ◌+◌, ◌*◌, ◌/◌, ◌%◌, ◌^◌, ◌<◌, ◌≤◌, Bool, true, false, cond, eqb, ltb, leb, List, [], ◌∷◌, ◌++◌, length, get_or, take, drop, Option, Some, None, Result, Ok, Err, refl, sym, ap, subst, ◌∙◌, arith, length-append}
+use Rattle.std.proofs.Common.{◌≡◌, ℕ, zero, suc, ◌+◌, ◌-◌, ◌*◌, ◌/◌, ◌%◌, ◌^◌, ◌<◌, ◌≤◌, Bool, true, false, cond, eqb, ltb, leb, List, [], ◌∷◌, ◌++◌, length, get_or, take, drop, Option, Some, None, Result, Ok, Err, refl, sym, ap, subst, ◌∙◌, arith, length-append}
 use Rattle.std.specs.Prelude.{not, is_some, IfOk}
 use Rattle.std.specs.Result.{result_err}
 use Rattle.std.proofs.lemmas.Bool.{ltb-false, le-ltb}
@@ -11,7 +11,7 @@ use Rattle.rtp_packet.specs.Packet.{AreBytes, Fields, flag, first_byte, second_b
 use Rattle.rtp_packet.specs.Fault.{version, has_padding, has_extension, csrc_count, extension_len, behind_header, behind_csrcs, behind_extension, is_bad_padding, fault_of, Parses}
 use Rattle.rtp_packet.specs.Reading.{words_of, extension_at, without_padding, padding_at, fields_of}
 use Rattle.rtp_packet.proofs.Numbers.{again_2, again_4, back_2, back_4, AreBytes-drop, length-csrc_list, length-words_of, words_again, words_back, words_fit}
-use Rattle.rtp_packet.proofs.Extension.{is_some-extension_at, extension_fits, extension_back, extension_len_again, extension_again}
+use Rattle.rtp_packet.proofs.Extension.{is_some-extension_at, extension_fits, extension_back, extension_front, extension_len_again, extension_again}
 use Rattle.rtp_packet.proofs.Padding.{is_some-padding_at, padding_back, padding_fits, padding_good, payload_again, padding_again}
 
 -- nothing is wrong, test by test
@@ -174,6 +174,20 @@ header_is bytes fits s =
 pub body_is : (bytes : List ℕ) → IsSound bytes → behind_extension bytes ≡ (fields_of bytes).payload ++ padding_bytes (fields_of bytes).padding
 unfolding fields_of
 body_is bytes s = sym (padding_back (has_padding bytes) (behind_extension bytes) s.padding_fits)
+
+-- the extension stands in between
+pub extension_is : (bytes body : List ℕ) → AreBytes bytes → IsSound bytes → body ≡ behind_extension bytes
+    → take (length (behind_csrcs bytes) - length body) (behind_csrcs bytes) ≡ header_extension (fields_of bytes).extension
+unfolding fields_of
+extension_is bytes body fits s e =
+    let csrcs = AreBytes-drop (4 * csrc_count bytes) (behind_header bytes) (AreBytes-drop 12 bytes fits) in
+    let len : length (behind_csrcs bytes) - length body ≡ extension_len (has_extension bytes) (behind_csrcs bytes) =
+    omega (arith, ap length e, s.extension_fits, length-drop (extension_len (has_extension bytes) (behind_csrcs bytes)) (behind_csrcs bytes)) in
+    ap (λ (n : ℕ). take n (behind_csrcs bytes)) len
+    ∙ extension_front (has_extension bytes) (behind_csrcs bytes) s.extension_fits csrcs
+
+pub body_fits : (bytes body : List ℕ) → body ≡ behind_extension bytes → length body ≤ length (behind_csrcs bytes)
+body_fits bytes body e = omega (arith, ap length e, length-drop (extension_len (has_extension bytes) (behind_csrcs bytes)) (behind_csrcs bytes))
 
 -- ---- what is written is read again
 

@@ -1,6 +1,6 @@
 //! The parts of a packet that tell where the next one begins.
 
-ghost use Rattle.std.specs.Prelude.{◌≡◌, ◌+◌, ◌*◌, ◌/◌, ◌%◌, ◌<◌, ◌≤◌, ◌==◌, false, length, take, drop, IsTrue, IfSome, MatchOption};
+ghost use Rattle.std.specs.Prelude.{◌≡◌, ◌+◌, ◌-◌, ◌*◌, ◌/◌, ◌%◌, ◌<◌, ◌≤◌, ◌==◌, false, length, take, drop, IsTrue, IfSome, MatchOption};
 ghost use Rattle.rtp_packet.specs.Fault.{csrc_count, behind_header, behind_csrcs, extension_len, is_bad_padding};
 ghost use Rattle.rtp_packet.specs.Reading.{extension_at, extension_value, without_padding};
 
@@ -46,6 +46,17 @@ pub(crate) fn header_of(bytes: &[u8]) -> &[u8]
     ensures { result.now ≡ take (12 + 4 * csrc_count bytes.now) bytes.now }
 {
     &bytes[..HEADER_LEN + 4 * usize::from(bytes[0] & CSRC_COUNT)]
+}
+
+/// What stands between the fixed header with the CSRCs and this body, which is the end of the bytes.
+pub(crate) fn between<'a>(bytes: &'a [u8], body: &[u8]) -> &'a [u8]
+    requires whole_header { 12 ≤ length bytes.now }
+    requires csrcs { 4 * csrc_count bytes.now ≤ length (behind_header bytes.now) }
+    requires body { length body.now ≤ length (behind_csrcs bytes.now) }
+    ensures { result.now ≡ take (length (behind_csrcs bytes.now) - length body.now) (behind_csrcs bytes.now) }
+{
+    let rest = &bytes[header_of(bytes).len()..];
+    &rest[..rest.len() - body.len()]
 }
 
 /// What follows the fixed header and the CSRCs that the first byte counts. `None` where the bytes end

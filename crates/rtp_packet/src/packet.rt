@@ -2,14 +2,14 @@
 
 ghost use Rattle.std.specs.Prelude.{◌≡◌, ◌++◌, IfOk, MatchOption};
 ghost use Rattle.std.specs.Result.{result_err};
-ghost use Rattle.rtp_packet.specs.Packet.{Fields, IsPacket, fixed_header, csrc_list, padding_bytes};
+ghost use Rattle.rtp_packet.specs.Packet.{Fields, IsPacket, fixed_header, csrc_list, header_extension, padding_bytes};
 ghost use Rattle.rtp_packet.specs.Fault.{fault_of};
 ghost use Rattle.rtp_packet.specs.Reading.{fields_of};
 
 use crate::fault::RtpFault;
 use crate::header::{
-    HEADER_LEN, has_extension, has_padding, header_of, skip_csrcs, split_extension, strip_padding,
-    version,
+    HEADER_LEN, between, has_extension, has_padding, header_of, skip_csrcs, split_extension,
+    strip_padding, version,
 };
 use byteorder::{BigEndian, ByteOrder};
 use std::marker::Model;
@@ -146,6 +146,15 @@ impl<'a> View<'a> {
         ensures { result.now ≡ fixed_header self.now ++ csrc_list self.now.csrcs }
     {
         header_of(self.bytes)
+    }
+
+    /// The header extension as it stands in the packet, between `header` and `body`: the profile's 16 bits,
+    /// the number of words, and the words. Without an extension there are no bytes, and with one at least
+    /// four.
+    pub fn extension_bytes(&self) -> &'a [u8]
+        ensures { result.now ≡ header_extension self.now.extension }
+    {
+        between(self.bytes, self.body)
     }
 
     /// What follows the header extension: the payload and the padding, as they stand in the packet.

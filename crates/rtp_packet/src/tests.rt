@@ -78,6 +78,7 @@ fn padding_may_leave_no_payload(rt: HostRuntime) -> Result<(), Fail> {
     let view = Packet::parse(&bytes).ok().ok_or("a packet")?;
     assert_eq!(rt; view.payload().len(), 0);
     assert!(rt; view.extension().is_none());
+    assert_eq!(rt; view.extension_bytes().len(), 0);
     Ok(())
 }
 
@@ -91,6 +92,7 @@ fn each_part_of_a_full_packet(rt: HostRuntime) -> Result<(), Fail> {
     assert_eq!(rt; view.ssrc(), 0xdead_beef);
     assert_eq!(rt; view.payload(), [7, 8, 9, 10, 11].as_slice());
     assert_eq!(rt; view.header(), FULL.split_at(20).0);
+    assert_eq!(rt; view.extension_bytes(), FULL.split_at(20).1.split_at(12).0);
     assert_eq!(rt; view.body(), [7, 8, 9, 10, 11, 0, 0, 3].as_slice());
     let (profile, words) = view.extension().ok_or("an extension")?;
     assert_eq!(rt; profile, 0xbede);
