@@ -1,8 +1,10 @@
-//! The parts that the payload descriptors of VP8 and VP9 share.
+//! The parts that the payload descriptors of VP8 and VP9 share. A descriptor is read by one place, which runs over it: it
+//! comes to stand past the end where a byte is missing, and never comes back.
 
-ghost use Rattle.std.specs.Prelude.{◌≡◌};
-ghost use Rattle.std.specs.Option.{option_copied};
-ghost use Rattle.keyframes.specs.Reading.{is_set, behind_byte, behind_picture_id, begins_without};
+ghost use Rattle.std.specs.Prelude.{◌≡◌, ◌+◌, ◌≤◌};
+ghost use Rattle.std.specs.Option.{option_and_then};
+ghost use Rattle.keyframes.specs.Places.{behind};
+ghost use Rattle.keyframes.specs.Reading.{is_set, behind_picture_id, begins_without};
 
 /// In the first byte of a picture id: a second byte follows.
 const LONG_PICTURE_ID: u8 = 0x80;
@@ -14,38 +16,27 @@ pub(crate) fn has(byte: u8, flags: u8) -> bool
     byte & flags != 0
 }
 
-/// What is behind a byte, if there is one to skip. None where it is missing.
-pub(crate) fn skip_byte(there: bool, bytes: &[u8]) -> Option<&[u8]>
-    ensures { option_copied result ≡ behind_byte there bytes.now }
+/// Where the payload goes on behind a picture id, if there is one at this place.
+pub(crate) fn skip_picture_id(there: bool, payload: &[u8], at: usize) -> usize
+    requires { at ≤ 2 }
+    ensures place { behind result payload.now ≡ option_and_then (behind_picture_id there) (behind at payload.now) }
+    ensures near { result ≤ at + 2 }
 {
     if !there {
-        return Some(bytes);
+        return at;
     }
-    match bytes {
-        [] => None,
-        [_, rest @ ..] => Some(rest),
+    match payload.get(at) {
+        None => at + 1,
+        Some(first) => at + 1 + usize::from(has(*first, LONG_PICTURE_ID)),
     }
 }
 
-/// What is behind a picture id, if there is one to skip. None where a byte of it is missing.
-pub(crate) fn skip_picture_id(there: bool, bytes: &[u8]) -> Option<&[u8]>
-    ensures { option_copied result ≡ behind_picture_id there bytes.now }
+/// Whether there is a byte at this place, with none of these bits.
+pub(crate) fn is_clear(payload: &[u8], at: usize, flags: u8) -> bool
+    ensures { result ≡ begins_without flags (behind at payload.now) }
 {
-    if !there {
-        return Some(bytes);
-    }
-    match bytes {
-        [] => None,
-        [first, rest @ ..] => skip_byte(has(*first, LONG_PICTURE_ID), rest),
-    }
-}
-
-/// Whether there is a first byte, with none of these bits.
-pub(crate) fn begins_clear(bytes: Option<&[u8]>, flags: u8) -> bool
-    ensures { result ≡ begins_without flags (option_copied bytes.entry) }
-{
-    match bytes {
-        Some([byte, ..]) => !has(*byte, flags),
-        _ => false,
+    match payload.get(at) {
+        None => false,
+        Some(byte) => !has(*byte, flags),
     }
 }

@@ -1,9 +1,10 @@
-ghost use Rattle.std.specs.Prelude.{◌≡◌, ◌↔◌, IsTrue};
-ghost use Rattle.std.specs.Option.{option_copied};
-ghost use Rattle.keyframes.specs.Reading.{behind_extension, is_vp8_key_start};
+ghost use Rattle.std.specs.Prelude.{◌≡◌, ◌↔◌, ◌||◌, IsTrue};
+ghost use Rattle.std.specs.Option.{option_and_then};
+ghost use Rattle.keyframes.specs.Places.{behind};
+ghost use Rattle.keyframes.specs.Reading.{is_set, behind_extension, is_vp8_key_start};
 ghost use Rattle.keyframes.specs.Vp8.{Vp8StartsKey};
 
-use crate::parts::{begins_clear, has, skip_byte, skip_picture_id};
+use crate::parts::{has, is_clear, skip_picture_id};
 
 /// X of the first byte: an extension follows.
 const EXTENDED: u8 = 0x80;
@@ -37,29 +38,38 @@ pub fn vp8_starts_key(payload: &[u8]) -> bool
 fn reads_key_start(payload: &[u8]) -> bool
     ensures { result ≡ is_vp8_key_start payload.now }
 {
-    match payload {
-        [] => false,
-        [first, rest @ ..] => {
+    match payload.first() {
+        None => false,
+        Some(first) => {
             has(*first, START)
                 && !has(*first, PARTITION)
-                && begins_clear(skip_extension(has(*first, EXTENDED), rest), NO_KEY_FRAME)
+                && is_clear(
+                    payload,
+                    skip_extension(has(*first, EXTENDED), payload),
+                    NO_KEY_FRAME,
+                )
         }
     }
 }
 
-// What is behind the extension, if there is one to skip. None where a byte of it is missing.
-fn skip_extension(there: bool, bytes: &[u8]) -> Option<&[u8]>
-    ensures { option_copied result ≡ behind_extension there bytes.now }
+// Where the payload goes on behind the first byte and the extension, if there is one.
+fn skip_extension(there: bool, payload: &[u8]) -> usize
+    ensures { behind result payload.now ≡ option_and_then (behind_extension there) (behind 1 payload.now) }
 {
     if !there {
-        return Some(bytes);
+        return 1;
     }
-    match bytes {
-        [] => None,
-        [flags, rest @ ..] => {
-            let rest = skip_picture_id(has(*flags, PICTURE_ID), rest)?;
-            let rest = skip_byte(has(*flags, LEVEL_INDEX), rest)?;
-            skip_byte(has(*flags, LAYER) || has(*flags, KEY_INDEX), rest)
-        }
-    }
+    let Some(flags) = payload.get(1) else {
+        return 2;
+    };
+    let at = skip_picture_id(has(*flags, PICTURE_ID), payload, 2);
+    let at = at + usize::from(has(*flags, LEVEL_INDEX));
+    at + usize::from(has_layer(*flags))
+}
+
+// Whether the byte that T and K share is there.
+fn has_layer(flags: u8) -> bool
+    ensures { result ≡ (is_set flags 0x20 || is_set flags 0x10) }
+{
+    has(flags, LAYER) || has(flags, KEY_INDEX)
 }

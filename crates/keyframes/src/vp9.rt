@@ -1,8 +1,8 @@
-ghost use Rattle.std.specs.Prelude.{◌≡◌, ◌↔◌, IsTrue};
+ghost use Rattle.std.specs.Prelude.{◌≡◌, ◌↔◌, ℕ, List, ◌∷◌, IsTrue};
 ghost use Rattle.keyframes.specs.Reading.{is_lowest, is_vp9_key_start};
 ghost use Rattle.keyframes.specs.Vp9.{Vp9StartsKey};
 
-use crate::parts::{begins_clear, has, skip_picture_id};
+use crate::parts::{has, is_clear, skip_picture_id};
 
 /// I, P, L and B of the first byte.
 const PICTURE_ID: u8 = 0x80;
@@ -30,18 +30,22 @@ pub fn vp9_starts_key(payload: &[u8]) -> bool
 fn reads_key_start(payload: &[u8]) -> bool
     ensures { result ≡ is_vp9_key_start payload.now }
 {
-    match payload {
-        [] => false,
-        [first, rest @ ..] => {
-            !has(*first, PREDICTED) && has(*first, START) && is_lowest_layer(*first, rest)
+    match payload.first() {
+        None => false,
+        Some(first) => {
+            !has(*first, PREDICTED) && has(*first, START) && is_lowest_layer(*first, payload)
         }
     }
 }
 
-// Whether the layer indices behind the picture id, if there are any, name the lowest spatial layer.
-fn is_lowest_layer(first: u8, rest: &[u8]) -> bool
-    ensures { result ≡ is_lowest first rest.now }
+// Whether the layer indices behind the first byte and the picture id, if there are any, name the lowest spatial layer.
+fn is_lowest_layer(first: u8, payload: &[u8]) -> bool
+    ensures { (rest : List ℕ) → payload.now ≡ first ∷ rest → result ≡ is_lowest first rest }
 {
     !has(first, LAYERS)
-        || begins_clear(skip_picture_id(has(first, PICTURE_ID), rest), SPATIAL_LAYER)
+        || is_clear(
+            payload,
+            skip_picture_id(has(first, PICTURE_ID), payload, 1),
+            SPATIAL_LAYER,
+        )
 }
