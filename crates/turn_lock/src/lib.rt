@@ -5,6 +5,7 @@
 //! right to enter. Contracts see what a pass has seen, a beginning of the one list, and which entries are its own.
 #![tactic(auto)]
 
+mod bells;
 mod book;
 mod guard;
 mod lock;

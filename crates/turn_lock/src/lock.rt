@@ -1,6 +1,7 @@
 //! The lock.
-ghost use Rattle.std.specs.Prelude.{◌≡◌, ◌+◌, ◌≤◌, ◌++◌, [], ◌∷◌, length, IfOk, IfErr, OnErr};
+ghost use Rattle.std.specs.Prelude.{◌≡◌, ◌+◌, ◌≤◌, ◌++◌, [], ◌∷◌, length, IsOk, IfOk, IfErr, OnErr};
 
+use crate::bells::Bells;
 use crate::book::Book;
 use crate::guard::Guard;
 use crate::pass::Pass;
@@ -10,21 +11,34 @@ use crate::steps::{count, draw, give, recall, serve, take, wait};
 use atomic_table::Table;
 use ms_base::NoMemory;
 use std::alloc::Global;
+use std::fmt;
 use std::snapshot::Snapshot;
 use std::sync::Wait;
+use thiserror::Error;
 
 /// A fair lock round a value. Threads share it by reference, and each has a pass of it.
 #[derive(Drop)]
 pub struct TurnLock<V: Book> {
     table: Table<Option<V>, View<V::Entry>, Snapshot<V>, Turns, Global>,
+    bells: Bells,
     ghost words: { (table.shared.table_id.words ≡ 3) × (table.shared.table_id.slots ≡ 1) },
 }
 
 /// Why a lock wasn't closed.
-#[derive(Drop)]
+#[derive(Drop, Error)]
 pub enum CloseFault<V: Book> {
     /// Out of memory. The lock and the pass come back.
+    #[error("out of memory")]
     NoMemory(TurnLock<V>, Pass<V>),
+}
+
+/// The name of the fault, without the lock and the pass.
+impl<V: Book> fmt::Debug for CloseFault<V> {
+    fn fmt<W: fmt::Write>(&self, f: &mut fmt::Formatter<W>) -> fmt::Result {
+        match self {
+            CloseFault::NoMemory(..) => f.write_str("NoMemory(..)"),
+        }
+    }
 }
 
 impl<V: Book> TurnLock<V> {
@@ -45,13 +59,14 @@ impl<V: Book> TurnLock<V> {
     {
         let entries = value.entries();
         let about = Snapshot::of(&value);
+        let bells = Bells::new(alloc)?;
         let mut slots = Vec::new(alloc);
         slots.push(Some(value))?;
         let Ok((table, seat)) = Table::new(alloc, &[0, 0, entries], slots, &about) else {
             return Err(NoMemory);
         };
         Ok((
-            TurnLock { table },
+            TurnLock { table, bells },
             Pass {
                 seat,
                 count: entries,
@@ -59,11 +74,13 @@ impl<V: Book> TurnLock<V> {
         ))
     }
 
-    /// A further pass, which has seen what this one has seen and owns nothing. It gets one of the parts.
+    /// A further pass, which has seen what this one has seen and owns nothing. It gets one of the parts. This takes no
+    /// memory.
     pub fn split(&self, pass: &mut Pass<V>) -> Result<Pass<V>, NoMemory>
         requires lock { IsOf self.now pass.old }
         requires idle { IsIdle pass.old }
         requires parts { 2 ≤ parts pass.old }
+        ensures granted { IsOk result }
         ensures refused { OnErr result (pass.new ≡ pass.old) }
         ensures lock { IfOk result (λ p. IsOf self.now p × IsOf self.now pass.new) }
         ensures idle { IfOk result (λ p. IsIdle p × IsIdle pass.new) }
@@ -114,7 +131,7 @@ impl<V: Book> TurnLock<V> {
     {
         let words = &self.table.shared;
         let ticket = draw(words, &mut pass.seat);
-        wait(rt, words, &mut pass.seat, ticket);
+        wait(rt, words, &self.bells, &mut pass.seat, ticket);
         let value = take(words, &mut pass.seat);
         pass.count = value.entries();
         Guard { value }
@@ -143,20 +160,21 @@ impl<V: Book> TurnLock<V> {
         give(words, &mut pass.seat, value);
         count(words, &mut pass.seat, added);
         pass.count = entries;
-        serve(words, &mut pass.seat);
+        serve(words, &self.bells, &mut pass.seat);
     }
 
-    /// Hands out the value. The pass has all parts, so no other is left.
+    /// Hands out the value. The pass has all parts, so no other is left. This takes no memory.
     pub fn close(self, pass: Pass<V>) -> Result<V, CloseFault<V>>
         requires lock { IsOf self pass }
         requires idle { IsIdle pass }
         requires parts { parts pass ≡ 1000000 }
+        ensures granted { IsOk result }
         ensures refused { IfErr result (GivesBack self pass) }
         ensures start { IfOk result (λ v. V.start v ≡ start pass) }
         ensures seen { IfOk result (λ v. V.journal v ≡ seen pass) }
         ensures own { EachOnce (seen pass) (own pass) }
     {
-        let TurnLock { table } = self;
+        let TurnLock { table, bells: _ } = self;
         let Pass { seat, count: _ } = pass;
         let mut closed = table.close_with(seat);
         let value = closed.take(0);

@@ -4,12 +4,12 @@ ghost use Rattle.turn_lock.specs.declared.rule.Stage.TheVariants.{Idle, Waits, S
 ghost use Rattle.turn_lock.specs.Plays.{Taken, at_stage, with_journal};
 ghost use Rattle.turn_lock.specs.Lists.{StartsWith, Stand, AllBelow, MayAddOne};
 
+use crate::bells::{Bells, Pause};
 use crate::book::Book;
 use crate::pass::TurnSeat;
 use crate::plays::{Count, Draw, Look, Serve};
 use crate::rule::{Turns, View};
 use atomic_table::Shared;
-use std::hint;
 use std::snapshot::Snapshot;
 use std::sync::Wait;
 
@@ -25,9 +25,6 @@ const LENGTH: usize = 2;
 /// The slot of the value.
 const VALUE: usize = 0;
 
-/// How often a thread looks before it sleeps.
-const LOOKS: u32 = 64;
-
 pub(crate) type Words<V> = Shared<Option<V>, View<<V as Book>::Entry>, Snapshot<V>, Turns>;
 
 /// Draws a ticket, and gives its low 64 bits.
@@ -40,25 +37,26 @@ pub(crate) fn draw<V: Book>(words: &Words<V>, seat: &mut TurnSeat<V>) -> u64
     words.fetch_add::<Draw>(seat, TICKET, 1)
 }
 
-/// Waits for the turn of the ticket. It looks a few times, and then sleeps until the turn goes on.
-pub(crate) fn wait<V: Book, R: Wait>(rt: &R, words: &Words<V>, seat: &mut TurnSeat<V>, ticket: u64)
+/// Waits for the turn of the ticket. Between two looks it waits at the bells.
+pub(crate) fn wait<V: Book, R: Wait>(
+    rt: &R,
+    words: &Words<V>,
+    bells: &Bells,
+    seat: &mut TurnSeat<V>,
+    ticket: u64,
+)
     requires table { (seat.old.table_id ≡ words.now.table_id) × (words.now.table_id.words ≡ 3) × (words.now.table_id.slots ≡ 1) }
     requires ticket { (t : ℕ) × (t % 2 ^ 64 ≡ ticket) × (seat.old.me.0.stage ≡ Waits t) × (seat.old.me.1 ≡ []) }
     ensures table { (seat.new.table_id ≡ seat.old.table_id) × (seat.new.id ≡ seat.old.id) }
     ensures turn { (t : ℕ) × Taken V.journal V.start t seat.old.me seat.new.me }
 {
-    let mut looks = 0u32;
+    let mut pause = Pause::FIRST;
     for _ in rt.forever() {
         let serving = words.load::<Look>(seat, SERVING);
         if serving == ticket {
             return;
         }
-        if looks < LOOKS {
-            looks += 1;
-            hint::spin_loop();
-        } else {
-            words.park(rt, SERVING, (serving & 0xffff_ffff) as u32);
-        }
+        pause = bells.wait(rt, ticket, serving, pause);
     }
     unreachable!()
 }
@@ -110,8 +108,8 @@ pub(crate) fn count<V: Book>(words: &Words<V>, seat: &mut TurnSeat<V>, added: u6
     words.fetch_add::<Count>(seat, LENGTH, added);
 }
 
-/// Gives the turn, and the value, to the next ticket, and wakes those who sleep where a further ticket is out.
-pub(crate) fn serve<V: Book>(words: &Words<V>, seat: &mut TurnSeat<V>)
+/// Gives the turn, and the value, to the next ticket, and rings for it.
+pub(crate) fn serve<V: Book>(words: &Words<V>, bells: &Bells, seat: &mut TurnSeat<V>)
     requires table { (seat.old.table_id ≡ words.now.table_id) × (words.now.table_id.words ≡ 3) × (words.now.table_id.slots ≡ 1) }
     requires hand { (value : V) × (seat.old.me.1 ≡ (0, Some value) ∷ []) × (V.journal value ≡ seat.old.me.0.seen) × (V.start value ≡ seat.old.me.0.start) }
     requires turn { (t : ℕ) × (seat.old.me.0.stage ≡ Serves t) }
@@ -119,7 +117,5 @@ pub(crate) fn serve<V: Book>(words: &Words<V>, seat: &mut TurnSeat<V>)
     ensures served { seat.new.me ≡ (at_stage Idle seat.old.me.0, []) }
 {
     let served = words.fetch_add::<Serve>(seat, SERVING, 1);
-    if words.peek(TICKET) != served.wrapping_add(1) {
-        words.wake_all(SERVING);
-    }
+    bells.ring(served.wrapping_add(1));
 }

@@ -1,8 +1,9 @@
-ghost use Rattle.std.specs.Prelude.{◌≡◌, ◌+◌, ◌<◌, ◌++◌, [], ◌∷◌};
+ghost use Rattle.std.specs.Prelude.{◌≡◌, ◌+◌, ◌<◌, ◌≤◌, ◌++◌, [], ◌∷◌, All, IfOk};
 ghost use Rattle.std.specs.Thread.{IsSync};
 ghost use Rattle.turn_lock.specs.Passes.{parts, IsOf, IsIdle};
 
 use crate::{Book, Pass, TurnLock};
+use std::alloc::{AllocError, Global};
 use std::process::Abort;
 use std::rt::Clock;
 use std::sync::Wait;
@@ -259,5 +260,77 @@ fn one_that_sleeps_is_woken(rt: HostRuntime) -> Result<(), Fail> {
         panic!(&rt; "memory")
     };
     assert_eq!(rt; log.lines.as_slice(), [(8, 80)].as_slice());
+    Ok(())
+}
+
+// More than there are bells, so that some share one.
+const MANY: u32 = 300;
+
+// So many passes, cut off this one.
+fn many_passes<R: Abort>(
+    rt: &R,
+    alloc: Global,
+    lock: &TurnLock<Log>,
+    first: &mut Pass<Log>,
+) -> Result<Vec<Pass<Log>>, AllocError>
+    requires ready { IsOf lock.now first.old × IsIdle first.old }
+    requires parts { 1000 ≤ parts first.old }
+    ensures first { IfOk result (λ _. IsOf lock.now first.new × IsIdle first.new) }
+    ensures passes { IfOk result (λ passes. All (λ p. IsOf lock.now p × IsIdle p) passes.items) }
+{
+    let mut passes = Vec::new(alloc);
+    for _ in 0..MANY {
+        let pass = lock.split(first).expect(rt, "memory");
+        passes.push(pass)?;
+    }
+    Ok(passes)
+}
+
+// Each enters a line in a thread of its own, while the other one most likely has its turn.
+fn all_come_later<R: Threads + Wait + Abort + Clock + Sync>(
+    rt: &R,
+    lock: &TurnLock<Log>,
+    passes: Vec<Pass<Log>>,
+)
+    requires { All (λ p. IsOf lock.now p × IsIdle p) passes.items }
+{
+    thread::map_vec(rt, passes, &|pass| come_later(rt, lock, pass)).expect(rt, "memory");
+}
+
+fn hold_and_all_come<R: Threads + Wait + Abort + Clock + Sync>(
+    rt: &R,
+    lock: &TurnLock<Log>,
+    first: Pass<Log>,
+    passes: Vec<Pass<Log>>,
+) -> Pass<Log>
+    requires first { IsOf lock.now first × IsIdle first }
+    requires passes { All (λ p. IsOf lock.now p × IsIdle p) passes.items }
+    ensures { IsOf lock.now result × IsIdle result }
+{
+    let (first, ()) = thread::join(
+        rt,
+        || -> Pass<Log>
+            requires { IsSync R.row × IsOf lock.now first × IsIdle first }
+            ensures { IsOf lock.entry.now result × IsIdle result }
+        { hold_turn(rt, lock, first) },
+        ||
+            requires { IsSync R.row × All (λ p. IsOf lock.now p × IsIdle p) passes.items }
+        { all_come_later(rt, lock, passes) },
+    );
+    first
+}
+
+#[test]
+fn more_sleep_than_there_are_bells(rt: HostRuntime) -> Result<(), Fail> {
+    let log = Log {
+        seed: 0,
+        lines: Vec::new(rt.alloc()),
+    };
+    let (lock, mut first) = TurnLock::new(rt.alloc(), log).expect(&rt, "memory");
+    let passes = many_passes(&rt, rt.alloc(), &lock, &mut first)?;
+    let mut first = hold_and_all_come(&rt, &lock, first, passes);
+    let guard = lock.enter(&rt, &mut first);
+    assert_eq!(rt; guard.get().lines.len(), MANY as usize);
+    lock.leave(&mut first, guard);
     Ok(())
 }

@@ -7,8 +7,8 @@ use Rattle.turn_lock.proofs.Journals.{numbered_once}
 use Rattle.turn_lock.proofs.Keeps.{opens}
 use Rattle.turn_lock.proofs.lock.TurnLock.new.Goals as goal
 
-pub new-requires : goal.new-requires
-new-requires g c =
+pub new-requires-2 : goal.new-requires-2
+new-requires-2 g c =
     let about = c.of-about.result.value in
     let items : c.push.new.self.items ≡ Some about ∷ [] =
     c.in_ok-push.ensures.items
