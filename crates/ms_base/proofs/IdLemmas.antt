@@ -75,3 +75,7 @@ id_tells_number s t m n from_s from_t same =
     let halves : 2 * 2 ^ 62 + m ≡ 2 * 2 ^ 62 + n =
     half_tells _ _ (omega (arith, from_s.number_fits)) (omega (arith, from_t.number_fits)) (ap (drop 8) same) in
     omega (arith, halves)
+
+pub not_an_id : (text : List ℕ) → length text ≡ 36 → ((bytes : List ℕ) × (parsed text ≡ Some bytes) → ⊥) → None ≡ id_of_text text
+unfolding id_of_text
+not_an_id text len none = rw (not_parsed text len none) refl

@@ -1,2 +1,4 @@
+pub mod HexLemmas
 pub mod IdLemmas
+pub mod IdTextLemmas
 pub mod NameLemmas

@@ -1,5 +1,7 @@
+pub mod Code
 pub mod Id
 pub mod IdRows
 pub mod Name
 pub mod NameRows
 pub mod Outcome
+pub mod Words

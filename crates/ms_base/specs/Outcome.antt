@@ -13,4 +13,5 @@ verdict_of_outcome outcome.WrongKind = verdict.WrongKind
 verdict_of_outcome outcome.InvalidState = verdict.InvalidState
 verdict_of_outcome (outcome.TypeError code) = verdict.TypeError code
 verdict_of_outcome outcome.IdsSpent = verdict.IdsSpent
+verdict_of_outcome outcome.TooBig = verdict.TooBig
 verdict_of_outcome (outcome.Worker error reason) = verdict.Worker error

@@ -1,6 +1,7 @@
-ghost use Rattle.std.specs.Prelude.{◌≡◌, ℕ, ◌^◌, ◌<◌, ◌≤◌, IfOk, Err, Some, false, ◌↔◌};
+ghost use Rattle.std.specs.Prelude.{◌≡◌, ◌≢◌, ℕ, ◌^◌, ◌<◌, ◌≤◌, IfOk, Err, Some, false, ◌↔◌, IsUtf8, option_map};
 ghost use Rattle.ms_base.specs.Id.{id_bytes, id_text, is_id_text, id_of_text, IsIdSource};
 
+use std::alloc::Global;
 use thiserror::Error;
 use uuid::Uuid;
 
@@ -13,6 +14,8 @@ pub struct Id(pub [u8; 16]);
 pub enum IdFault {
     #[error("not the hyphenated form of a UUID")]
     BadId,
+    #[error("out of memory")]
+    NoMemory,
 }
 
 impl Id {
@@ -31,28 +34,42 @@ impl Id {
         Id(bytes)
     }
 
-    /// The id that the bytes are the hyphenated form of: 36 characters, in either case of letters.
-    /// `BadId` comes exactly where they are not of that form.
+    /// The id that the bytes are the hyphenated form of: 36 characters, in either case of letters. `None`
+    /// comes exactly where they are not of that form. It takes no memory.
     #[tactic(auto, using(crate::proofs::IdLemmas::parsed_is_id_of_text, crate::proofs::IdLemmas::other_length_is_no_id, crate::proofs::IdLemmas::no_id_of_text, crate::proofs::IdLemmas::id_text_of_some))]
-    pub fn read(bytes: &[u8]) -> Result<Id, IdFault>
-        ensures ok { IfOk result (λ id. id_of_text bytes.now ≡ Some id.0) }
-        ensures bad { (result ≡ Err IdFault.BadId) ↔ (is_id_text bytes.now ≡ false) }
+    pub fn parse(bytes: &[u8]) -> Option<Id>
+        ensures { option_map (λ id. id.0) result ≡ id_of_text bytes.now }
     {
         // Other lengths may be other forms of a UUID, with braces or without hyphens.
         if bytes.len() != 36 {
-            return Err(IdFault::BadId);
+            return None;
         }
         match Uuid::try_parse_ascii(bytes) {
-            Ok(id) => Ok(Id(id.into_bytes())),
-            Err(_) => Err(IdFault::BadId),
+            Ok(id) => Some(Id(id.into_bytes())),
+            Err(_) => None,
+        }
+    }
+
+    /// The id that the bytes are the hyphenated form of, as [`Id::parse`] reads it. `BadId` comes exactly
+    /// where they are not of that form. The parser takes no memory today, so `NoMemory` never comes.
+    #[tactic(auto, using(crate::proofs::IdLemmas::no_id_of_text, crate::proofs::IdLemmas::id_text_of_some))]
+    pub fn read(_alloc: Global, bytes: &[u8]) -> Result<Id, IdFault>
+        ensures ok { IfOk result (λ id. id_of_text bytes.now ≡ Some id.0) }
+        ensures bad { (result ≡ Err IdFault.BadId) ↔ (is_id_text bytes.now ≡ false) }
+        ensures memory { result ≢ Err IdFault.NoMemory }
+    {
+        match Id::parse(bytes) {
+            Some(id) => Ok(id),
+            None => Err(IdFault::BadId),
         }
     }
 
     /// The hyphenated form in lower case. It reads back as the id.
-    #[tactic(auto, using(crate::proofs::IdLemmas::parsed_is_id_of_text, crate::proofs::IdLemmas::hyphenated_is_id_text))]
+    #[tactic(auto, using(crate::proofs::IdLemmas::parsed_is_id_of_text, crate::proofs::IdLemmas::hyphenated_is_id_text, crate::proofs::IdTextLemmas::id_text_is_utf8))]
     pub fn text(&self) -> [u8; 36]
         ensures value { result ≡ id_text self.now.0 }
         ensures reads_back { id_of_text result ≡ Some self.now.0 }
+        ensures utf8 { IsUtf8 result }
     {
         let mut buffer = [0; 36];
         let id = Uuid::from_bytes(self.0).hyphenated();

@@ -5,6 +5,36 @@ pub enum Kind {
     Router,
 }
 
+/// Why an object has closed.
+#[derive(Clone, Copy, Debug, PartialEq, Eq)]
+pub enum Reason {
+    /// A call closed it.
+    Close,
+    /// Its worker process is gone.
+    Died,
+    /// The run came to its end.
+    Stop,
+    /// The worker told that its Producer has closed.
+    ProducerClose,
+    /// A call that was to pipe a Producer failed.
+    Cleanup,
+    /// Its Worker has closed.
+    WorkerClose,
+    /// Its Router has closed.
+    RouterClose,
+    /// Its transport has closed.
+    TransportClose,
+    /// The other end of its pipe has closed.
+    PipeClose,
+}
+
+/// What a stream carries.
+#[derive(Clone, Copy, Debug, PartialEq, Eq)]
+pub enum Media {
+    Audio,
+    Video,
+}
+
 /// The number of an object of the tree, from 1, in the order in which calls were accepted.
 #[derive(Clone, Copy, Debug, PartialEq, Eq)]
 pub struct Serial(pub u32);

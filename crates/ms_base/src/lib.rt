@@ -1,9 +1,10 @@
 //! The value types that every other crate of the media server names: names and ids by their forms,
-//! the entries of a journal, what a call comes to, and want of memory as a fault of its own.
+//! the entries of a journal, what a call comes to, and out of memory as a fault of its own.
 #![tactic(auto)]
 
 mod applied;
 mod bytes;
+mod code;
 mod entry;
 mod fault;
 mod id;
@@ -11,16 +12,19 @@ mod keys;
 mod name;
 mod outcome;
 mod text;
+mod words;
 
 pub use applied::{Applied, ApplyFault, SlotLook};
 pub use bytes::Bytes;
+pub use code::Code;
 pub use entry::{Entry, Op};
 pub use fault::NoMemory;
 pub use id::{Id, IdFault, ids_differ};
-pub use keys::{CallKey, Kind, Serial, WorkerKey};
+pub use keys::{CallKey, Kind, Media, Reason, Serial, WorkerKey};
 pub use name::{Name, NameFault};
-pub use outcome::{Code, Outcome, Verdict, WorkerError};
+pub use outcome::{Outcome, Verdict, WorkerError};
 pub use text::Text;
+pub use words::{digits, push_hex, push_number, push_word, push_worker};
 
 #[cfg(test)]
 mod tests;

@@ -1,33 +1,7 @@
 ghost use Rattle.std.specs.Prelude.{◌≡◌};
 
+use crate::code::Code;
 use crate::text::Text;
-
-/// What is wrong with a line of a journal, or with what a call is given.
-#[derive(Clone, Copy, Debug, PartialEq, Eq)]
-pub enum Code {
-    /// The line is not UTF-8.
-    Utf8,
-    /// The first line is not the head of its format.
-    Head,
-    /// The last line has no line feed.
-    Cut,
-    /// No line of the format begins so.
-    Op,
-    /// The number of words is wrong.
-    Words,
-    /// A word is not a name.
-    Name,
-    /// A word is not a number, or is out of its range.
-    Number,
-    /// A word is none of those that may stand at its place.
-    Event,
-    /// The rest of the line is not a JSON text.
-    Json,
-    /// A word is not bytes in hexadecimal, or not as many as there may be.
-    Hex,
-    /// There are as many slots already as there may be.
-    Slots,
-}
 
 /// The kind of a worker's refusal.
 #[derive(Clone, Copy, Debug, PartialEq, Eq)]
@@ -55,6 +29,8 @@ pub enum Outcome {
     TypeError { code: Code },
     /// The worker's channel has no request id left.
     IdsSpent,
+    /// The request would be longer than a payload may be.
+    TooBig,
     /// The worker refused, with its reason.
     Worker { error: WorkerError, reason: Text },
 }
@@ -69,6 +45,7 @@ pub enum Verdict {
     InvalidState,
     TypeError { code: Code },
     IdsSpent,
+    TooBig,
     Worker { error: WorkerError },
 }
 
@@ -87,6 +64,7 @@ impl Outcome {
             Outcome::InvalidState => Verdict::InvalidState,
             Outcome::TypeError { code } => Verdict::TypeError { code: *code },
             Outcome::IdsSpent => Verdict::IdsSpent,
+            Outcome::TooBig => Verdict::TooBig,
             Outcome::Worker { error, reason: _ } => Verdict::Worker { error: *error },
         }
     }

@@ -1,5 +1,6 @@
 use crate::{
-    Bytes, Entry, Id, IdFault, Name, NameFault, Op, Outcome, Text, Verdict, WorkerError, WorkerKey,
+    Bytes, Code, Entry, Id, IdFault, Name, NameFault, Op, Outcome, Text, Verdict, WorkerError,
+    WorkerKey, push_hex, push_number, push_word, push_worker,
 };
 use std::test::Fail;
 
@@ -24,9 +25,9 @@ fn ids_and_their_texts(rt: HostRuntime) {
         ),
         (b"", Err(IdFault::BadId)),
     ] {
-        assert!(rt; Id::read(text) == want);
+        assert!(rt; Id::read(rt.alloc(), text) == want);
     }
-    let upper = Id::read(b"ABCDEF01-2345-6789-abcd-EF0123456789");
+    let upper = Id::read(rt.alloc(), b"ABCDEF01-2345-6789-abcd-EF0123456789");
     assert!(rt;
         upper
             == Ok(Id([
@@ -78,5 +79,23 @@ fn a_verdict_leaves_the_reason_out(rt: HostRuntime) -> Result<(), Fail> {
     let error = WorkerError::TypeError;
     let outcome = Outcome::Worker { error, reason };
     assert!(rt; outcome.verdict() == Verdict::Worker { error });
+    Ok(())
+}
+
+#[test]
+fn words_behind_their_spaces(rt: HostRuntime) -> Result<(), Fail> {
+    let worker = WorkerKey {
+        slot: 64,
+        generation: 1001,
+    };
+    let mut line = Bytes::new(rt.alloc());
+    push_worker(b"chunk", worker, &mut line)?;
+    push_word(Code::SameRouter.word(), &mut line)?;
+    push_number(0, &mut line)?;
+    push_hex(&[0x0a, 0xf0], &mut line)?;
+    assert_eq!(rt;
+        line.as_slice(),
+        b"chunk 64 1001 same_router 00af0".as_slice()
+    );
     Ok(())
 }

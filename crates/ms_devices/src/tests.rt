@@ -43,8 +43,8 @@ fn a_sink_tells_what_it_got(rt: HostRuntime) -> Result<(), Fail> {
         (&[2, 9], [Ok(()), Err(Failed)], b"abcde"),
     ] {
         let mut sink = MemSink::new(rt.alloc(), numbers(rt.alloc(), fails)?)?;
-        assert!(rt; two_writes(&mut sink).as_slice() == answers.as_slice());
-        assert!(rt; sink.told() == Some(told));
+        assert_eq!(rt; two_writes(&mut sink).as_slice(), answers.as_slice());
+        assert_eq!(rt; sink.told().unwrap_or(b"no more told"), told);
     }
     Ok(())
 }

@@ -1,0 +1,35 @@
+-- The word of a code: for a bad line, and for what a call is given (this project's own).
+use Rattle.std.specs.Prelude.{ℕ, List, codes}
+use Rattle.ms_base.specs.declared.code.Code.{Code}
+use Rattle.ms_base.specs.declared.code.Code.TheVariants as code
+
+abbrev pub code_word : Code → List ℕ
+code_word code.Long = codes "long"
+code_word code.Utf8 = codes "utf8"
+code_word code.Head = codes "head"
+code_word code.Cut = codes "cut"
+code_word code.NoLane = codes "nolane"
+code_word code.Op = codes "op"
+code_word code.Words = codes "words"
+code_word code.Name = codes "name"
+code_word code.Number = codes "number"
+code_word code.Event = codes "event"
+code_word code.Json = codes "json"
+code_word code.Hex = codes "hex"
+code_word code.Together = codes "together"
+code_word code.TooMany = codes "toomany"
+code_word code.Form = codes "form"
+code_word code.SameRouter = codes "same_router"
+code_word code.DuplicateType = codes "duplicate_type"
+code_word code.DuplicateId = codes "duplicate_id"
+code_word code.Ssrc = codes "ssrc"
+code_word code.Apt = codes "apt"
+code_word code.Many = codes "many"
+code_word code.Kind = codes "kind"
+code_word code.Slots = codes "slots"
+code_word code.Packet = codes "packet"
+code_word code.Codec = codes "codec"
+code_word code.Codecs = codes "codecs"
+code_word code.Types = codes "types"
+code_word code.Mux = codes "mux"
+code_word code.Simulcast = codes "simulcast"
