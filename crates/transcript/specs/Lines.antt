@@ -1,0 +1,53 @@
+-- The line of a note. This project's own.
+use Rattle.std.specs.Prelude.{ℕ, List, [], ◌∷◌, ◌++◌, codes}
+use Rattle.hex.specs.Hex.{encode_lower}
+use Rattle.serde_json.specs.Data.{string}
+use Rattle.serde_json.specs.Written.{compact_text}
+use Rattle.ms_base.specs.Code.{code_word}
+use Rattle.ms_base.specs.Id.{id_text}
+use Rattle.ms_base.specs.Words.{space, line_feed, spaced, worker_words}
+use Rattle.ms_base.specs.declared.keys.Kind.{Kind}
+use Rattle.ms_base.specs.declared.keys.Kind.TheVariants as kind
+use Rattle.ms_base.specs.declared.outcome.Outcome.{Outcome}
+use Rattle.ms_base.specs.declared.outcome.Outcome.TheVariants as outcome
+use Rattle.ms_base.specs.declared.outcome.WorkerError.{WorkerError}
+use Rattle.ms_base.specs.declared.outcome.WorkerError.TheVariants as error
+use Rattle.transcript.specs.declared.note.Note.{Note}
+use Rattle.transcript.specs.declared.note.Note.TheVariants as note
+
+abbrev pub kind_word : Kind → List ℕ
+kind_word kind.Worker = codes "worker"
+kind_word kind.Router = codes "router"
+
+abbrev pub error_word : WorkerError → List ℕ
+error_word error.TypeError = codes "TypeError"
+error_word error.Error = codes "Error"
+error_word error.BadData = codes "BadData"
+
+-- a reason stands as a JSON text in quotes
+abbrev pub outcome_words : Outcome → List ℕ
+outcome_words outcome.Done = codes "ok"
+outcome_words outcome.NameTaken = codes "nametaken"
+outcome_words outcome.NoName = codes "noname"
+outcome_words outcome.WrongKind = codes "wrongkind"
+outcome_words outcome.InvalidState = codes "invalidstate"
+outcome_words (outcome.TypeError c) = codes "typeerror " ++ code_word c
+outcome_words outcome.IdsSpent = codes "idsspent"
+outcome_words outcome.TooBig = codes "toobig"
+outcome_words (outcome.Worker e reason) = codes "worker " ++ error_word e ++ space ∷ compact_text (string reason)
+
+-- the words of a note, without the line feed
+abbrev pub note_words : Note → List ℕ
+note_words (note.Open serial k name id) = codes "open" ++ spaced serial.0 ++ space ∷ kind_word k ++ space ∷ name ++ space ∷ id_text id.0
+note_words (note.Spawn worker) = codes "spawn" ++ worker_words worker
+note_words (note.Up worker) = codes "up" ++ worker_words worker
+note_words (note.Running name generation) = codes "running " ++ name ++ spaced generation
+note_words (note.Sent worker payload) = codes "sent" ++ worker_words worker ++ space ∷ payload
+note_words (note.Settled call o) = codes "settled" ++ spaced call.lane ++ spaced call.place ++ space ∷ outcome_words o
+note_words (note.Late worker id) = codes "late" ++ worker_words worker ++ spaced id
+note_words (note.Stray worker) = codes "stray" ++ worker_words worker
+note_words (note.Unexpected worker) = codes "unexpected" ++ worker_words worker
+note_words (note.Log worker level text) = codes "log" ++ worker_words worker ++ space ∷ level ∷ space ∷ encode_lower text
+
+abbrev pub note_line : Note → List ℕ
+note_line n = note_words n ++ line_feed ∷ []
