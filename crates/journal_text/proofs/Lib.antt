@@ -1,0 +1,9 @@
+pub mod Numbers
+pub mod Pieces
+pub mod Shapes
+pub mod Texts
+pub mod HexCase
+pub mod Spelling
+pub mod WellFormed
+pub mod Back
+pub mod Sizes

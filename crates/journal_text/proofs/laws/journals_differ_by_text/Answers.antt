@@ -1,0 +1,5 @@
+use Rattle.journal_text.proofs.Back.{differ_by_text}
+use Rattle.journal_text.proofs.laws.journals_differ_by_text.Goals as goal
+
+pub returns : goal.returns
+returns c = differ_by_text

@@ -1,0 +1,6 @@
+pub mod Written
+pub mod Reading
+pub mod WellFormed
+pub mod Gives
+pub mod Case
+pub mod Rows

@@ -1,0 +1,52 @@
+ghost use Rattle.std.specs.Prelude.{◌≡◌};
+
+use ms_base::{Code, NoMemory};
+use std::alloc::{AllocError, AllocFailed};
+use thiserror::Error;
+
+/// Why a text is not read as a journal.
+#[derive(Clone, Copy, Debug, PartialEq, Eq, Error)]
+pub enum JournalFault {
+    /// The first fault: the number of its line, from 1 and told as at most 2^32 - 1, and its code.
+    #[error("line {line} is not a line of a journal: {code:?}")]
+    BadJournal { line: u32, code: Code },
+    #[error("out of memory")]
+    NoMemory,
+}
+
+/// Why a line is not read.
+#[derive(Clone, Copy)]
+pub(crate) enum WordFault {
+    Bad(Code),
+    NoMemory,
+}
+
+impl From<Code> for WordFault {
+    ghost use Rattle.journal_text.specs.declared.fault.WordFault.TheVariants as fault;
+
+    ghost from_gives = { λ code wrong. wrong ≡ fault.Bad code };
+
+    fn from(code: Code) -> WordFault {
+        WordFault::Bad(code)
+    }
+}
+
+impl From<NoMemory> for WordFault {
+    ghost use Rattle.journal_text.specs.declared.fault.WordFault.TheVariants as fault;
+
+    ghost from_gives = { λ _ wrong. wrong ≡ fault.NoMemory };
+
+    fn from(_refused: NoMemory) -> WordFault {
+        WordFault::NoMemory
+    }
+}
+
+impl<T: Drop> From<AllocFailed<T>> for JournalFault {
+    ghost use Rattle.journal_text.specs.declared.fault.JournalFault.TheVariants as fault;
+
+    ghost from_gives = { λ _ wrong. wrong ≡ fault.NoMemory };
+
+    fn from(_refused: AllocFailed<T>) -> JournalFault {
+        JournalFault::NoMemory
+    }
+}
