@@ -1,0 +1,12 @@
+pub mod Reading
+pub mod Names
+pub mod Codecs
+pub mod Exts
+pub mod Encodings
+pub mod Whole
+pub mod Gives
+pub mod Writing
+pub mod Readable
+pub mod Table
+pub mod ReadRows
+pub mod WriteRows

@@ -1,0 +1,8 @@
+mod codec;
+mod encoding;
+mod ext;
+mod list;
+mod members;
+mod whole;
+
+pub use whole::{read_caps, read_params};
