@@ -1,299 +1,240 @@
--- What a host keeps, from its first entry on.
-use Rattle.std.proofs.Common.{◌≡◌, ℕ, ◌+◌, ◌-◌, ◌≤◌, ◌<◌, ◌^◌, List, [], ◌∷◌, ◌++◌, length, take, map, Bool, true, false, cond, Option, Some, None, option_map, slice_get, min, nat_lt, Result, Ok, Err, is_err, refl, sym, ap, ◌∙◌, subst, arith, append_assoc, length-append, decimal, zero, suc}
-use Rattle.std.proofs.lemmas.Fmt.{length-decimal-le}
-use Rattle.std.specs.Result.{OnErr, OnOk}
-use Rattle.std.proofs.lemmas.Bool.{le-leb}
-use Rattle.std.proofs.lemmas.Bool.Decides.{nat_tests}
+-- A host goes on with its journal, entry by entry.
+use Rattle.std.proofs.Common.{◌≡◌, ℕ, zero, suc, List, [], ◌∷◌, ◌++◌, length, map, Bool, true, false, ◌&&◌, cond, Option, Some, None, Result, Ok, Err, OnOk, refl, sym, ap, ◌∙◌, subst, append_assoc, inl, inr}
+use Rattle.std.specs.List.{find}
+use Rattle.std.proofs.lemmas.Bool.{cases_Bool}
 use Rattle.std.proofs.lemmas.List.{append-nil, map-append}
-use Rattle.ms_base.specs.declared.applied.ApplyFault.{ApplyFault}
-use Rattle.ms_base.specs.declared.applied.ApplyFault.TheVariants as fault
-use Rattle.ms_base.specs.declared.applied.SlotLook.{SlotLook}
-use Rattle.ms_base.specs.declared.applied.SlotLook.TheVariants as look
 use Rattle.ms_base.specs.declared.entry.Entry.{Entry}
 use Rattle.ms_base.specs.declared.entry.Entry.TheVariants as entry
+use Rattle.ms_base.specs.declared.entry.Op.{Op}
+use Rattle.ms_base.specs.declared.keys.CallKey.{CallKey}
 use Rattle.ms_base.specs.declared.keys.WorkerKey.{WorkerKey}
-use Rattle.ms_base.specs.declared.outcome.Outcome.{Outcome}
-use Rattle.ms_base.specs.declared.outcome.Outcome.TheVariants as outcome
-use Rattle.host_core.specs.Frames.{frames}
-use Rattle.host_core.specs.Message.{message_of}
-use Rattle.host_core.specs.JournalText.{journal_size, head_line, entry_line, max_journal, max_told}
-use Rattle.host_core.specs.Apply.{fault_of, size_with}
-use Rattle.host_core.specs.Kept.{kept, kept_step, kept_bytes, kept_chunk, shown, look_shown, IsRun, IsCutOff, Goes, HasRoom}
-use Rattle.host_core.specs.Run.{Journal, state_of, notes_of, sent_of, looked_at, slot_look}
-use Rattle.host_core.specs.State.{State, start, stream_of, pending, slot_of, is_up}
-use Rattle.host_core.specs.Step.{is_unbuilt, Micro, Says, step, steps, heard, entry_step, running_if, running_in, says_running, accepted_response, refused_response}
-use Rattle.host_core.specs.declared.message.Message.{Message}
-use Rattle.host_core.specs.declared.message.Message.TheVariants as message
-use Rattle.host_core.specs.declared.requests.Request.{Request}
-use Rattle.host_core.specs.declared.note.Note.{Note}
-use Rattle.host_core.specs.declared.slots.Slot.{Slot}
-use Rattle.host_core.specs.declared.streams.Stream.{Stream}
-use Rattle.host_core.proofs.KeptLemmas.{kept_step-kept}
-use Rattle.host_core.proofs.LinesLemmas.{journal_size_more, entries_count}
-use Rattle.host_core.proofs.RunLemmas.{state_of-last, notes_of-last, sent_of-append, has_room, is_unbuilt-kept}
+use Rattle.channel_frames.specs.Frames.{frames, frames_within, rest_of, rest_within, is_broken, begins_too_long, begins_with_frame, new_frames}
+use Rattle.channel_msgs.specs.Read.{message_of}
+use Rattle.host_core.specs.Answer.{Answer, Refuses, AddsWorker, Issues, answer, known}
+use Rattle.host_core.specs.LookUps.{unread_of}
+use Rattle.host_core.specs.Laws.{IsSound}
+use Rattle.host_core.specs.Run.{after, micros}
+use Rattle.host_core.specs.State.{State, Slot, Stream, same_worker, next_call, is_up, is_wanted, bytes_in, stream_of, with_stream}
+use Rattle.host_core.specs.Step.{Comes, Says, Starting, step, steps, answered, called, call_entered, started, bytes_joined}
+use Rattle.host_core.specs.Tables.{IsKept, IsRead, IsHeld, Goes, Moves, ShowsTheSame}
+use Rattle.host_core.specs.declared.readers.Readers.{Readers}
+use Rattle.host_core.specs.declared.tables.Tables.{Tables}
+use Rattle.host_core.proofs.ByWorker.{worker-same, worker-itself}
+use Rattle.host_core.proofs.CutLemmas.{sayings, say, said-apart, chunk-up, chunk-down, stream_of-with_stream}
+use Rattle.host_core.proofs.SoundLemmas.{sound_step}
+use Rattle.host_core.proofs.TablesLemmas.{shown-itself, shown-then}
+use Rattle.host_core.proofs.TraceLemmas.{steps_append, along_steps}
 
--- ---- the first
+-- ---- what is sound stays so
 
-head_size : (seed : ℕ) → seed < 2 ^ 60 → length (head_line seed) ≤ 40
-head_size seed fits =
-    let digits : length (decimal seed) ≤ 20 = length-decimal-le 20 seed (omega arith) (omega arith) (omega arith) in
-    omega (arith, length-append (decimal seed) (10 ∷ []))
+sound-steps : (s : State) (e : Entry) → IsSound s → IsSound (after s e)
+sound-steps s e h = along_steps IsSound sound_step s (micros s e) h
 
-pub is_run-new : (seed : ℕ) → seed < 2 ^ 60 → IsRun seed [] false (length (head_line seed)) (start seed) [] []
-is_run-new seed fits = record {
-  seed_fits = fits;
-  size_is = ap length (sym (append-nil (head_line seed)));
-  within_limit = omega (arith, head_size seed fits);
-  notes_are = refl;
-  sent_is = λ w. refl;
-  slots_show = refl;
-  tables_are = λ h. refl;
-}
+-- ---- a call and a start leave the streams as they are
 
--- ---- one more
+answered-streams : (call : CallKey) (a : Answer) (s : State) → (answered call a s).streams ≡ s.streams
+answered-streams call (Refuses outcome) s = refl
+answered-streams call (AddsWorker name budget) s = refl
+answered-streams call (Issues under object channel id payload) s = refl
 
-pub is_run-more : (seed : ℕ) (es : List Entry) (e : Entry) (size : ℕ) (tables tables' : State) (sent sent' : List Stream) (notes notes' : List Note)
-    → (size' : ℕ) → IsRun seed es false size tables sent notes → size' ≡ journal_size seed es + length (entry_line e) → size' ≤ max_journal
-    → Goes tables' notes notes' (kept_step tables e)
-    → ((w : WorkerKey) → stream_of sent' w ≡ stream_of sent w ++ sent_of (kept_step tables e).1 w)
-    → IsRun seed (es ++ e ∷ []) false size' tables' sent' notes'
-is_run-more seed es e size tables tables' sent sent' notes notes' size' run grown limit goes out =
-    let was : tables ≡ kept (state_of seed es) = run.tables_are refl in
-    let next : kept_step tables e ≡ (kept (entry_step (state_of seed es) e).0, (entry_step (state_of seed es) e).1) = ap (λ t. kept_step t e) was ∙ kept_step-kept (state_of seed es) e in
-    let state : tables' ≡ kept (state_of seed (es ++ e ∷ [])) = goes.state ∙ (ap (λ (r : State × List Note). r.0) next ∙ ap kept (sym (state_of-last seed es e))) in
-    let said : (kept_step tables e).1 ≡ (entry_step (state_of seed es) e).1 = ap (λ (r : State × List Note). r.1) next in
+started-streams : (b : Bool) (worker : WorkerKey) (s : State) → (steps s (cond b (Starting worker ∷ []) [])).streams ≡ s.streams
+started-streams true worker s = refl
+started-streams false worker s = refl
+
+read-still : (s t : State) (r : Readers) → t.streams ≡ s.streams → IsRead s r → IsRead t r
+read-still s t r e h = λ w. h w ∙ ap (λ (xs : List Stream). rest_of (stream_of xs w)) (sym e)
+
+pub held-call : (lane : ℕ) (o : Op) (t t' : Tables) (r : Readers) → Goes (called lane o) t t' → (s : State) → IsHeld s t r → IsHeld (after s (entry.Call lane o)) t' r
+held-call lane o t t' r goes s h =
+    let call = next_call s.calls lane in
     record {
-      seed_fits = run.seed_fits;
-      size_is = grown ∙ sym (journal_size_more seed es e);
-      within_limit = limit;
-      notes_are = goes.notes ∙ (ap (λ ns. ns ++ (kept_step tables e).1) run.notes_are ∙ (ap (λ ns. notes_of seed es ++ ns) said ∙ sym (notes_of-last seed es e)));
-      sent_is = λ w. out w ∙ (ap (λ b. b ++ sent_of (kept_step tables e).1 w) (run.sent_is w) ∙ (ap (λ ns. sent_of (notes_of seed es) w ++ sent_of ns w) said
-          ∙ (sym (sent_of-append (notes_of seed es) (entry_step (state_of seed es) e).1 w) ∙ ap (λ ns. sent_of ns w) (sym (notes_of-last seed es e)))));
-      slots_show = ap (λ (t : State). map shown t.slots) state;
-      tables_are = λ h. state;
+      sound = sound-steps s (entry.Call lane o) h.sound;
+      kept = goes s h.sound h.kept;
+      read = read-still s (called lane o s) r (answered-streams call (answer (known s) o) (call_entered call o s)) h.read;
     }
 
--- the same, where it is known that memory was not wanted so far
-pub is_run-next : (seed : ℕ) (es es' : List Entry) (e : Entry) (spent : Bool) (size : ℕ) (tables tables' : State) (sent sent' : List Stream) (notes notes' : List Note)
-    → (size' : ℕ) → spent ≡ false → es' ≡ es ++ e ∷ [] → IsRun seed es spent size tables sent notes → size' ≡ journal_size seed es + length (entry_line e) → size' ≤ max_journal
-    → Goes tables' notes notes' (kept_step tables e)
-    → ((w : WorkerKey) → stream_of sent' w ≡ stream_of sent w ++ sent_of (kept_step tables e).1 w)
-    → IsRun seed es' spent size' tables' sent' notes'
-is_run-next seed es es' e spent size tables tables' sent sent' notes notes' size' unspent longer run grown limit goes out =
-    let before : IsRun seed es false size tables sent notes = subst (λ b. IsRun seed es b size tables sent notes) unspent run in
-    let now : IsRun seed (es ++ e ∷ []) false size' tables' sent' notes' = is_run-more seed es e size tables tables' sent sent' notes notes' size' before grown limit goes out in
-    subst (λ b. IsRun seed es' b size' tables' sent' notes') (sym unspent) (subst (λ (fs : List Entry). IsRun seed fs false size' tables' sent' notes') (sym longer) now)
+pub held-start : (worker : WorkerKey) (up : Bool) (t t' : Tables) (r : Readers) → Moves (λ s. after s (entry.Spawned worker up)) t t' → (s : State) → IsHeld s t r
+    → IsHeld (after s (entry.Spawned worker up)) t' r
+held-start worker up t t' r moves s h = record {
+  sound = sound-steps s (entry.Spawned worker up) h.sound;
+  kept = moves s h.kept;
+  read = read-still s (after s (entry.Spawned worker up)) r (started-streams (up && is_wanted s.slots worker) worker s) h.read;
+}
 
-pub room-run : (seed : ℕ) (es : List Entry) (spent : Bool) (size : ℕ) (tables : State) (sent : List Stream) (notes : List Note)
-    → spent ≡ false → IsRun seed es spent size tables sent notes → HasRoom tables
-room-run seed es spent size tables sent notes unspent run =
-    let few : length es + 2 < 2 ^ 32 = omega (arith, entries_count seed es, run.size_is, run.within_limit) in
-    subst HasRoom (sym (run.tables_are unspent)) (has_room seed es run.seed_fits few)
+-- ---- a start is done where it is wanted
 
--- a result that is no error is good
-pub goes-on : {T E : Type 0} (P : Type 0) (r : Result T E) (b : Bool) → b ≡ is_err r → b ≡ false → OnOk r P → P
-goes-on P (Ok x) b e f p = p
-goes-on P (Err x) b e f p = absurd (no (sym e ∙ f))
+start-by : (worker : WorkerKey) (up b : Bool) (s : State) (t : Tables) → IsKept s t → (up && is_wanted t.slots.slots worker) ≡ b
+    → after s (entry.Spawned worker up) ≡ steps s (cond b (Starting worker ∷ []) [])
+start-by worker up b s t k e =
+    ap (λ c. steps s (cond c (Starting worker ∷ []) [])) (ap (λ (xs : List Slot). up && is_wanted xs worker) (sym k.slots) ∙ e)
+
+pub start-wanted : (worker : WorkerKey) (up : Bool) (t t' : Tables) → (up && is_wanted t.slots.slots worker) ≡ true → Moves (started worker) t t'
+    → Moves (λ s. after s (entry.Spawned worker up)) t t'
+start-wanted worker up t t' e moves = λ s k. subst (λ (x : State). IsKept x t') (sym (start-by worker up true s t k e)) (moves s k)
+
+pub start-unwanted : (worker : WorkerKey) (up : Bool) (t : Tables) → (up && is_wanted t.slots.slots worker) ≡ false
+    → Moves (λ s. after s (entry.Spawned worker up)) t t
+start-unwanted worker up t e = λ s k. subst (λ (x : State). IsKept x t) (sym (start-by worker up false s t k e)) k
+
+-- ---- payload after payload
+
+-- some payloads were heard, and the others are still unread
+pub record Hearing (worker : WorkerKey) (before now : Tables) (first later : Readers) : Type 0 where
+  pub heard : List (List ℕ)
+  pub payloads : frames (unread_of first worker) ≡ heard ++ frames (unread_of later worker)
+  pub rest : rest_of (unread_of later worker) ≡ rest_of (unread_of first worker)
+  pub others : (w : WorkerKey) → same_worker worker w ≡ false → unread_of later w ≡ unread_of first w
+  pub goes : Goes (say worker heard) before now
+  pub shown : ShowsTheSame before now
+
+pub hearing-none : (worker : WorkerKey) (t : Tables) (r : Readers) → Hearing worker t t r r
+hearing-none worker t r = record { heard = []; payloads = refl; rest = refl; others = λ w e. refl; goes = λ s h k. k; shown = shown-itself t }
+
+said-more : (worker : WorkerKey) (payloads : List (List ℕ)) (payload : List ℕ) (s : State)
+    → say worker (payloads ++ payload ∷ []) s ≡ step (say worker payloads s) (Says worker (message_of payload))
+said-more worker payloads payload s =
+    ap (steps s) (map-append (λ (p : List ℕ). Says worker (message_of p)) payloads (payload ∷ []))
+    ∙ steps_append s (sayings worker payloads) (sayings worker (payload ∷ []))
+
+pub hearing-more : (worker : WorkerKey) (t0 t t' : Tables) (r0 r r' : Readers) (payload : List ℕ) → Hearing worker t0 t r0 r
+    → (frames (unread_of r worker) ≡ payload ∷ frames (unread_of r' worker)) × (rest_of (unread_of r' worker) ≡ rest_of (unread_of r worker))
+    → ((w : WorkerKey) → same_worker worker w ≡ false → unread_of r' w ≡ unread_of r w)
+    → Goes (λ s. step s (Says worker (message_of payload))) t t' → ShowsTheSame t t' → Hearing worker t0 t' r0 r'
+hearing-more worker t0 t t' r0 r r' payload h found others goes shown = record {
+  heard = h.heard ++ payload ∷ [];
+  payloads = h.payloads ∙ ap (λ (l : List (List ℕ)). h.heard ++ l) found.0 ∙ sym (append_assoc h.heard (payload ∷ []) (frames (unread_of r' worker)));
+  rest = found.1 ∙ h.rest;
+  others = λ w e. others w e ∙ h.others w e;
+  goes = λ s sound k.
+      subst (λ (x : State). IsKept x t') (sym (said-more worker h.heard payload s))
+      (goes (say worker h.heard s) (along_steps IsSound sound_step s (sayings worker h.heard) sound) (h.goes s sound k));
+  shown = shown-then t0 t t' h.shown shown;
+}
+
+-- where there is no frame, the rest is all
+rest-whole : (n : ℕ) (stream : List ℕ) → frames_within n stream ≡ [] → rest_within n stream ≡ stream
+unfolding frames_within rest_within
+rest-whole zero stream e = refl
+rest-whole (suc n) stream e = at _ _ _ (begins_with_frame stream) e
   where
-    no : true ≡ false → ⊥
-    no h = cc
+    at : (first rest : List ℕ) (later : List (List ℕ)) (b : Bool) → cond b (first ∷ later) [] ≡ [] → cond b rest stream ≡ stream
+    at first rest later true h = absurd cc
+    at first rest later false h = refl
+
+pub hearing-done : (worker : WorkerKey) (t0 t : Tables) (r0 r r' : Readers) → Hearing worker t0 t r0 r → (frames (unread_of r worker) ≡ []) × (unread_of r' worker ≡ unread_of r worker)
+    → Goes (say worker (frames (unread_of r0 worker))) t0 t
+hearing-done worker t0 t r0 r r' h none =
+    let all : frames (unread_of r0 worker) ≡ h.heard = h.payloads ∙ ap (λ (l : List (List ℕ)). h.heard ++ l) none.0 ∙ append-nil h.heard in
+    subst (λ (l : List (List ℕ)). Goes (say worker l) t0 t) (sym all) h.goes
+
+pub hearing-rest : (worker : WorkerKey) (t0 t : Tables) (r0 r r' : Readers) → Hearing worker t0 t r0 r → (frames (unread_of r worker) ≡ []) × (unread_of r' worker ≡ unread_of r worker)
+    → unread_of r' worker ≡ rest_of (unread_of r0 worker)
+hearing-rest worker t0 t r0 r r' h none =
+    none.1 ∙ sym (rest-whole (length (unread_of r worker)) (unread_of r worker) none.0) ∙ h.rest
+
+pub hearing-whole : (worker : WorkerKey) (t0 t : Tables) (r0 r : Readers) → Hearing worker t0 t r0 r → is_broken (unread_of r0 worker) ≡ false → is_broken (unread_of r worker) ≡ false
+hearing-whole worker t0 t r0 r h e = ap begins_too_long h.rest ∙ e
 
 -- ---- a chunk
 
-map-said : (w : WorkerKey) (ps : List (List ℕ)) → map (Says w) (map message_of ps) ≡ map (λ payload. Says w (message_of payload)) ps
-map-said w [] = refl
-map-said w (p ∷ ps) = ap (λ ms. Says w (message_of p) ∷ ms) (map-said w ps)
-
-pub heard-chunk : (t t1 t' : State) (notes notes' : List Note) (w : WorkerKey) (bytes : List ℕ) (ms : List Message)
-    → is_up t w ≡ true → ms ≡ map message_of (frames (stream_of t.streams w ++ bytes)) → t1 ≡ kept_bytes t w bytes
-    → Goes t' notes notes' (steps t1 (map (Says w) ms)) → Goes t' notes notes' (kept_chunk t w bytes)
-heard-chunk t t1 t' notes notes' w bytes ms up read kept goes =
-    let said : steps t1 (map (Says w) ms) ≡ steps (kept_bytes t w bytes) (map (λ payload. Says w (message_of payload)) (frames (stream_of t.streams w ++ bytes)))
-    = ap (λ u. steps u (map (Says w) ms)) kept ∙ ap (steps (kept_bytes t w bytes)) (ap (map (Says w)) read ∙ map-said w (frames (stream_of t.streams w ++ bytes))) in
-    let here : kept_chunk t w bytes ≡ steps (kept_bytes t w bytes) (map (λ payload. Says w (message_of payload)) (frames (stream_of t.streams w ++ bytes)))
-    = ap (λ b. cond b (steps (kept_bytes t w bytes) (map (λ payload. Says w (message_of payload)) (frames (stream_of t.streams w ++ bytes)))) (t, [])) up in
-    subst (Goes t' notes notes') (said ∙ sym here) goes
-
--- what a worker says has nothing sent
-sent-cond : (b : Bool) (p q : State × List Note) (w : WorkerKey) → sent_of p.1 w ≡ [] → sent_of q.1 w ≡ [] → sent_of (cond b p q).1 w ≡ []
-sent-cond true p q w e f = e
-sent-cond false p q w e f = f
-
-sent-running_in : (s : State) (v : WorkerKey) (x : Option Slot) (w : WorkerKey) → sent_of (running_in s v x).1 w ≡ []
-sent-running_in s v None w = refl
-sent-running_in s v (Some x) w = sent-cond x.running _ _ w refl refl
-
-sent-accepted : (s : State) (v : WorkerKey) (id : ℕ) (r : Option Request) (w : WorkerKey) → sent_of (accepted_response s v id r).1 w ≡ []
-sent-accepted s v id None w = refl
-sent-accepted s v id (Some r) w = refl
-
-sent-refused : (s : State) (v : WorkerKey) (id : ℕ) (o : Outcome) (r : Option Request) (w : WorkerKey) → sent_of (refused_response s v id o r).1 w ≡ []
-sent-refused s v id o None w = refl
-sent-refused s v id o (Some r) w = refl
-
-sent-heard : (s : State) (v : WorkerKey) (m : Message) (w : WorkerKey) → sent_of (heard s v m).1 w ≡ []
-sent-heard s v (message.Accepted id) w = sent-accepted s v id (pending s.requests v id) w
-sent-heard s v (message.Refused id error reason) w = sent-refused s v id (outcome.Worker error reason) (pending s.requests v id) w
-sent-heard s v (message.Notice target event) w = sent-cond (says_running target event) _ _ w (sent-running_in s v (slot_of s.slots v) w) refl
-sent-heard s v (message.Packet id bytes) w = refl
-sent-heard s v (message.Log level text) w = refl
-sent-heard s v message.Unexpected w = refl
-
-sent-says : (s : State) (v : WorkerKey) (ps : List (List ℕ)) (w : WorkerKey) → sent_of (steps s (map (λ payload. Says v (message_of payload)) ps)).1 w ≡ []
-sent-says s v [] w = refl
-sent-says s v (p ∷ ps) w =
-    let here = heard s v (message_of p) in
-    sent_of-append here.1 (steps here.0 (map (λ payload. Says v (message_of payload)) ps)).1 w
-    ∙ (ap (λ b. b ++ sent_of (steps here.0 (map (λ payload. Says v (message_of payload)) ps)).1 w) (sent-heard s v (message_of p) w) ∙ sent-says here.0 v ps w)
-
-pub unsent-chunk : (t : State) (e : Entry) (v : WorkerKey) (bytes before : List ℕ) (w : WorkerKey) → e ≡ entry.Chunk v bytes → before ≡ before ++ sent_of (kept_step t e).1 w
-unsent-chunk t e v bytes before w is =
-    let none : sent_of (kept_step t (entry.Chunk v bytes)).1 w ≡ [] = sent-cond (is_up t v) _ _ w (sent-says (kept_bytes t v bytes) v (frames (stream_of t.streams v ++ bytes)) w) refl in
-    sym (append-nil before) ∙ ap (λ b. before ++ b) (sym none ∙ ap (λ d. sent_of (kept_step t d).1 w) (sym is))
-
-pub on_ok_any : {T E : Type 0} (r : Result T E) (P : Type 0) → P → OnOk r P
-on_ok_any (Ok x) P p = p
-on_ok_any (Err e) P p = tt
-
--- ---- several messages
-
--- the next step, behind the notes so far
-abbrev then : State × List Note → Micro → State × List Note
-then r m = ((step r.0 m).0, r.1 ++ (step r.0 m).1)
-
-steps-last : (s : State) (ms : List Micro) (m : Micro) → steps s (ms ++ m ∷ []) ≡ then (steps s ms) m
-steps-last s [] m = ap (λ notes. ((step s m).0, notes)) (append-nil (step s m).1)
-steps-last s (d ∷ ms) m =
-    let first = step s d in
-    ap (λ (q : State × List Note). (q.0, first.1 ++ q.1)) (steps-last first.0 ms m)
-    ∙ ap (λ notes. ((step (steps first.0 ms).0 m).0, notes)) (sym (append_assoc first.1 (steps first.0 ms).1 (step (steps first.0 ms).0 m).1))
-
-pub says-more : (s t t' : State) (notes notes' notes'' : List Note) (w : WorkerKey) (ms : List Message) (m : Message)
-    → Goes t notes notes' (steps s (map (Says w) ms)) → Goes t' notes' notes'' (heard t w m) → Goes t' notes notes'' (steps s (map (Says w) (ms ++ m ∷ [])))
-says-more s t t' notes notes' notes'' w ms m before now =
-    let all : steps s (map (Says w) (ms ++ m ∷ [])) ≡ then (steps s (map (Says w) ms)) (Says w m) = ap (steps s) (map-append (Says w) ms (m ∷ [])) ∙ steps-last s (map (Says w) ms) (Says w m) in
-    let here : heard t w m ≡ heard (steps s (map (Says w) ms)).0 w m = ap (λ u. heard u w m) before.state in
-    record {
-      state = now.state ∙ (ap (λ (r : State × List Note). r.0) here ∙ ap (λ (r : State × List Note). r.0) (sym all));
-      notes = now.notes ∙ (ap (λ ns. ns ++ (heard t w m).1) before.notes ∙ (ap (λ (r : State × List Note). (notes ++ (steps s (map (Says w) ms)).1) ++ r.1) here
-          ∙ (append_assoc notes (steps s (map (Says w) ms)).1 (heard (steps s (map (Says w) ms)).0 w m).1 ∙ ap (λ (r : State × List Note). notes ++ r.1) (sym all))));
-    }
-
--- ---- slots show what they showed while a worker speaks
-
-shown-running : (w : WorkerKey) (xs : List Slot) → map shown (map (running_if w) xs) ≡ map shown xs
-shown-running w [] = refl
-shown-running w (x ∷ xs) = ap (λ ys. shown x ∷ ys) (shown-running w xs)
-
-shown-cond : (b : Bool) (p q : State × List Note) (xs : List Slot) → map shown p.0.slots ≡ map shown xs → map shown q.0.slots ≡ map shown xs → map shown (cond b p q).0.slots ≡ map shown xs
-shown-cond true p q xs e f = e
-shown-cond false p q xs e f = f
-
-shown-running_in : (s : State) (w : WorkerKey) (x : Option Slot) → map shown (running_in s w x).0.slots ≡ map shown s.slots
-shown-running_in s w None = refl
-shown-running_in s w (Some x) = shown-cond x.running _ _ s.slots refl (shown-running w s.slots)
-
-shown-accepted : (s : State) (w : WorkerKey) (id : ℕ) (r : Option Request) → (accepted_response s w id r).0.slots ≡ s.slots
-shown-accepted s w id None = refl
-shown-accepted s w id (Some r) = refl
-
-shown-refused : (s : State) (w : WorkerKey) (id : ℕ) (o : Outcome) (r : Option Request) → (refused_response s w id o r).0.slots ≡ s.slots
-shown-refused s w id o None = refl
-shown-refused s w id o (Some r) = refl
-
-shown-heard : (s : State) (w : WorkerKey) (m : Message) → map shown (heard s w m).0.slots ≡ map shown s.slots
-shown-heard s w (message.Accepted id) = ap (map shown) (shown-accepted s w id (pending s.requests w id))
-shown-heard s w (message.Refused id error reason) = ap (map shown) (shown-refused s w id (outcome.Worker error reason) (pending s.requests w id))
-shown-heard s w (message.Notice target event) = shown-cond (says_running target event) _ _ s.slots (shown-running_in s w (slot_of s.slots w)) refl
-shown-heard s w (message.Packet id bytes) = refl
-shown-heard s w (message.Log level text) = refl
-shown-heard s w message.Unexpected = refl
-
-shown-says : (s : State) (w : WorkerKey) (ms : List Message) → map shown (steps s (map (Says w) ms)).0.slots ≡ map shown s.slots
-shown-says s w [] = refl
-shown-says s w (m ∷ ms) = shown-says (heard s w m).0 w ms ∙ shown-heard s w m
-
-take-first : (xs ys zs : List Note) → take (length (xs ++ ys)) zs ≡ xs ++ ys → take (length xs) zs ≡ xs
-take-first [] ys zs e = refl
-take-first (x ∷ xs) ys [] e = absurd (no_cons x (xs ++ ys) e)
+stream-other : (xs : List Stream) (worker w : WorkerKey) (bytes : List ℕ) → same_worker worker w ≡ false → stream_of (with_stream xs worker bytes) w ≡ stream_of xs w
+stream-other [] worker w bytes e = ap (λ b. bytes_in (cond b (Some (record { worker = worker; bytes = bytes })) None)) e
+stream-other (x ∷ xs) worker w bytes e = at (same_worker x.worker worker) refl (stream-other xs worker w bytes e)
   where
-    no_cons : (y : Note) (us : List Note) → [] ≡ y ∷ us → ⊥
-    no_cons y us h = cc
-take-first (x ∷ xs) ys (z ∷ zs) e = ap (λ us. z ∷ us) (take-first xs ys zs (cc)) ∙ ap (λ u. u ∷ xs) (cc)
+    later : (b : Bool) → stream_of (with_stream xs worker bytes) w ≡ stream_of xs w
+        → bytes_in (cond b (Some x) (find (λ (y : Stream). same_worker y.worker w) (with_stream xs worker bytes)))
+        ≡ bytes_in (cond b (Some x) (find (λ (y : Stream). same_worker y.worker w) xs))
+    later true h = refl
+    later false h = h
 
-pub cut_off-later : (s t t' : State) (notes notes' notes'' : List Note) (w : WorkerKey) (ms : List Message)
-    → Goes t notes notes' (steps s (map (Says w) ms)) → IsCutOff t t' notes' notes'' → IsCutOff s t' notes notes''
-cut_off-later s t t' notes notes' notes'' w ms before cut =
-    let said = (steps s (map (Says w) ms)).1 in
-    record {
-      notes = take-first notes said notes'' (subst (λ (ns : List Note). take (length ns) notes'' ≡ ns) before.notes cut.notes);
-      slots = cut.slots ∙ (ap (λ (u : State). map shown u.slots) before.state ∙ shown-says s w ms);
-    }
+    at : (b : Bool) → same_worker x.worker worker ≡ b → stream_of (with_stream xs worker bytes) w ≡ stream_of xs w
+        → stream_of (cond b (record x { bytes = bytes } ∷ xs) (x ∷ with_stream xs worker bytes)) w ≡ stream_of (x ∷ xs) w
+    at true is h =
+        let none : same_worker x.worker w ≡ false = ap (λ (v : WorkerKey). same_worker v w) (worker-same x.worker worker is) ∙ e in
+        ap (λ c. bytes_in (cond c (Some (record x { bytes = bytes })) (find (λ (y : Stream). same_worker y.worker w) xs))) none
+        ∙ sym (ap (λ c. bytes_in (cond c (Some x) (find (λ (y : Stream). same_worker y.worker w) xs))) none)
+    at false is h = later (same_worker x.worker w) h
 
--- ---- a slot shows the same where it has the same worker and is up alike
+joined-kept : (worker : WorkerKey) (bytes : List ℕ) (s : State) (t : Tables) → IsKept s t → IsKept (bytes_joined worker bytes s) t
+joined-kept worker bytes s t k = record {
+  seed = k.seed;
+  objects = k.objects;
+  next = k.next;
+  pending = k.pending;
+  issued = k.issued;
+  being_made = k.being_made;
+  calls = k.calls;
+  slots = k.slots;
+  notes = k.notes;
+}
 
-shown-at : (xs : List Slot) (i : ℕ) → slice_get (map shown xs) i ≡ option_map shown (slice_get xs i)
-shown-at [] zero = refl
-shown-at [] (suc i) = refl
-shown-at (x ∷ xs) zero = refl
-shown-at (x ∷ xs) (suc i) = shown-at xs i
+pub held-down : (worker : WorkerKey) (bytes : List ℕ) (t : Tables) (r : Readers) → is_up t.slots.slots worker ≡ false → (s : State) → IsHeld s t r
+    → IsHeld (after s (entry.Chunk worker bytes)) t r
+held-down worker bytes t r e s h =
+    let down : is_up s.slots worker ≡ false = ap (λ (xs : List Slot). is_up xs worker) (sym h.kept.slots) ∙ e in
+    subst (λ (x : State). IsHeld x t r) (sym (chunk-down s worker bytes down)) h
 
-abbrev pub looked_shown : List Note → Option (WorkerKey × Bool) → SlotLook
-looked_shown notes None = look.Idle
-looked_shown notes (Some p) = look_shown notes p
+-- what was fed
+abbrev pub IsFed : WorkerKey → List ℕ → Readers → Readers → Type 0
+IsFed worker bytes r r1 = (w : WorkerKey) → unread_of r1 w ≡ cond (same_worker worker w) (unread_of r w ++ bytes) (unread_of r w)
 
-looked-shown : (notes : List Note) (x : Option Slot) → looked_at notes x ≡ looked_shown notes (option_map shown x)
-looked-shown notes None = refl
-looked-shown notes (Some x) = refl
+pub fed-itself : (worker : WorkerKey) (bytes : List ℕ) (r r1 : Readers) → IsFed worker bytes r r1 → unread_of r1 worker ≡ unread_of r worker ++ bytes
+fed-itself worker bytes r r1 fed = fed worker ∙ ap (λ b. cond b (unread_of r worker ++ bytes) (unread_of r worker)) (worker-itself worker)
 
-pub slot_look-shown : (s : State) (notes : List Note) (xs : List Slot) (slot : ℕ) → 1 ≤ slot → map shown xs ≡ map shown s.slots
-    → slot_look s notes slot ≡ looked_shown notes (option_map shown (slice_get xs (slot - 1)))
-slot_look-shown s notes xs slot counted e =
-    ap (λ b. cond b (looked_at notes (slice_get s.slots (slot - 1))) look.Idle) (le-leb 1 slot counted)
-    ∙ (looked-shown notes (slice_get s.slots (slot - 1))
-    ∙ ap (looked_shown notes) (sym (shown-at s.slots (slot - 1)) ∙ (ap (λ ps. slice_get ps (slot - 1)) (sym e) ∙ shown-at xs (slot - 1))))
+fed-other : (worker w : WorkerKey) (bytes : List ℕ) (r r1 : Readers) → IsFed worker bytes r r1 → same_worker worker w ≡ false → unread_of r1 w ≡ unread_of r w
+fed-other worker w bytes r r1 fed e = fed w ∙ ap (λ b. cond b (unread_of r w ++ bytes) (unread_of r w)) e
 
--- what holds anyhow holds after an error
-pub on_err : {T E : Type 0} (r : Result T E) (P : Type 0) → P → OnErr r P
-on_err (Ok x) P p = tt
-on_err (Err e) P p = p
+pub fed-whole : (worker : WorkerKey) (bytes : List ℕ) (slots : List Slot) (r r1 : Readers) → IsFed worker bytes r r1 → is_up slots worker ≡ true
+    → (is_up slots worker && is_broken (unread_of r worker ++ bytes)) ≡ false → is_broken (unread_of r1 worker) ≡ false
+fed-whole worker bytes slots r r1 fed up whole =
+    ap is_broken (fed-itself worker bytes r r1 fed) ∙ sym (ap (λ b. b && is_broken (unread_of r worker ++ bytes)) up) ∙ whole
 
--- ---- what stands in the way
+module _
+    (fresh : (first later : List ℕ) → new_frames first later ≡ frames (rest_of first ++ later))
+    (cut : (first later : List ℕ) → rest_of (first ++ later) ≡ rest_of (rest_of first ++ later))
+    (worker : WorkerKey)
+    (bytes : List ℕ)
+    (t t' : Tables)
+    (r r1 r2 : Readers)
+    (up : is_up t.slots.slots worker ≡ true)
+    (fed : IsFed worker bytes r r1)
+    (goes : Goes (say worker (frames (unread_of r1 worker))) t t')
+    (rest : unread_of r2 worker ≡ rest_of (unread_of r1 worker))
+    (others : (w : WorkerKey) → same_worker worker w ≡ false → unread_of r2 w ≡ unread_of r1 w) where
+  unread-then : (s : State) → IsRead s r → unread_of r1 worker ≡ rest_of (stream_of s.streams worker) ++ bytes
+  unread-then s read = fed-itself worker bytes r r1 fed ∙ ap (λ (l : List ℕ). l ++ bytes) (read worker)
 
--- the three tests, one after another
-abbrev pub tested : Bool → Bool → Bool → ℕ → Option ApplyFault
-tested spent full unbuilt size = cond spent (Some fault.NoMemory) (cond full (Some (fault.Full size)) (cond unbuilt (Some fault.Unbuilt) None))
+  read-here : (s : State) → IsRead s r → (w : WorkerKey) → same_worker worker w ≡ true
+      → unread_of r2 w ≡ rest_of (stream_of (bytes_joined worker bytes s).streams w)
+  read-here s read w e =
+      let stream = stream_of s.streams worker in
+      subst (λ (v : WorkerKey). unread_of r2 v ≡ rest_of (stream_of (bytes_joined worker bytes s).streams v)) (worker-same worker w e)
+      (rest ∙ ap rest_of (unread-then s read) ∙ sym (cut stream bytes) ∙ ap rest_of (sym (stream_of-with_stream s.streams worker (stream ++ bytes))))
 
-told-size : (n size : ℕ) → size ≡ min n max_told → nat_lt max_journal n ≡ nat_lt max_journal size
-told-size n size e = grind (arith, nat_tests)
+  read-there : (s : State) → IsRead s r → (w : WorkerKey) → same_worker worker w ≡ false
+      → unread_of r2 w ≡ rest_of (stream_of (bytes_joined worker bytes s).streams w)
+  read-there s read w e =
+      others w e ∙ fed-other worker w bytes r r1 fed e ∙ read w
+      ∙ ap rest_of (sym (stream-other s.streams worker w (stream_of s.streams worker ++ bytes) e))
 
-pub fault_of-tested : (j : Journal) (e : Entry) (size : ℕ) (unbuilt : Bool) → size ≡ min (size_with j e) max_told
-    → (j.spent ≡ false → unbuilt ≡ is_unbuilt (state_of j.seed j.entries) e)
-    → fault_of j e ≡ tested j.spent (nat_lt max_journal size) unbuilt size
-fault_of-tested j e size unbuilt told built = by_spent j.spent built
-  where
-    by_spent : (b : Bool) → (b ≡ false → unbuilt ≡ is_unbuilt (state_of j.seed j.entries) e)
-        → cond b (Some fault.NoMemory) (cond (nat_lt max_journal (size_with j e)) (Some (fault.Full (min (size_with j e) max_told))) (cond (is_unbuilt (state_of j.seed j.entries) e) (Some fault.Unbuilt) None))
-        ≡ tested b (nat_lt max_journal size) unbuilt size
-    by_spent true h = refl
-    by_spent false h =
-        ap (λ full. cond full (Some (fault.Full (min (size_with j e) max_told))) (cond (is_unbuilt (state_of j.seed j.entries) e) (Some fault.Unbuilt) None)) (told-size (size_with j e) size told)
-        ∙ (ap (λ n. cond (nat_lt max_journal size) (Some (fault.Full n)) (cond (is_unbuilt (state_of j.seed j.entries) e) (Some fault.Unbuilt) None)) (sym told)
-        ∙ ap (λ u. cond (nat_lt max_journal size) (Some (fault.Full size)) (cond u (Some fault.Unbuilt) None)) (sym (h refl)))
+  pub held-up : (s : State) → IsHeld s t r → IsHeld (after s (entry.Chunk worker bytes)) t' r2
+  held-up s h =
+      let joined = bytes_joined worker bytes s in
+      let stream = stream_of s.streams worker in
+      let up_then : is_up s.slots worker ≡ true = ap (λ (xs : List Slot). is_up xs worker) (sym h.kept.slots) ∙ up in
+      let unread : frames (unread_of r1 worker) ≡ new_frames stream bytes = ap frames (unread-then s h.read) ∙ sym (fresh stream bytes) in
+      let known_then : say worker (frames (unread_of r1 worker)) joined ≡ after s (entry.Chunk worker bytes) =
+      ap (λ (l : List (List ℕ)). say worker l joined) unread ∙ sym (chunk-up s worker bytes up_then) in
+      let heard = say worker (frames (unread_of r1 worker)) joined in
+      let streams : heard.streams ≡ joined.streams = (said-apart worker (frames (unread_of r1 worker)) joined).streams in
+      let read : IsRead joined r2 = λ w. elim (cases_Bool (same_worker worker w)) [ inl e ↦ read-here s h.read w e | inr e ↦ read-there s h.read w e ] in
+      record {
+        sound = sound-steps s (entry.Chunk worker bytes) h.sound;
+        kept = subst (λ (x : State). IsKept x t') known_then (goes joined (sound_step s (Comes worker bytes) h.sound) (joined-kept worker bytes s t h.kept));
+        read = subst (λ (x : State). IsRead x r2) known_then (read-still joined heard r2 streams read);
+      }
 
--- what is kept of the streams tells whether an entry is built
-pub unbuilt-run : (seed : ℕ) (es : List Entry) (spent : Bool) (size : ℕ) (tables : State) (sent : List Stream) (notes : List Note) (e : Entry)
-    → spent ≡ false → IsRun seed es spent size tables sent notes → is_unbuilt tables e ≡ is_unbuilt (state_of seed es) e
-unbuilt-run seed es spent size tables sent notes e unspent run = ap (λ t. is_unbuilt t e) (run.tables_are unspent) ∙ is_unbuilt-kept (state_of seed es) e
-
--- a host that is not spent, within its limit, refuses what is not built and nothing else
-pub fault_of-last : (j j' : Journal) (e : Entry) (size : ℕ) (unbuilt b : Bool) → j ≡ j' → size ≡ min (size_with j' e) max_told
-    → unbuilt ≡ is_unbuilt (state_of j.seed j.entries) e → j.spent ≡ false → size ≤ max_journal → unbuilt ≡ b
-    → cond b (Some fault.Unbuilt) None ≡ fault_of j' e
-fault_of-last j j' e size unbuilt b same told built unspent within is =
-    let here : size ≡ min (size_with j e) max_told = told ∙ ap (λ (k : Journal). min (size_with k e) max_told) (sym same) in
-    let small : nat_lt max_journal size ≡ false = grind (arith, nat_tests) in
-    sym (ap (λ (k : Journal). fault_of k e) (sym same)
-    ∙ (fault_of-tested j e size unbuilt here (λ h. built)
-    ∙ (ap (λ s. tested s (nat_lt max_journal size) unbuilt size) unspent
-    ∙ (ap (λ full. tested false full unbuilt size) small ∙ ap (λ u. tested false false u size) is))))
+-- what follows from two clauses on an `Ok`
+pub on_ok_both : {T E : Type 0} (r : Result T E) (P Q R : Type 0) → (P → Q → R) → OnOk r P → OnOk r Q → OnOk r R
+on_ok_both (Ok x) P Q R f p q = f p q
+on_ok_both (Err e) P Q R f p q = p

@@ -1,19 +1,16 @@
 -- What an index tells after a change at one key.
-use Rattle.std.proofs.Common.{◌≡◌, ℕ, List, [], ◌∷◌, ◌++◌, Bool, true, false, cond, Option, Some, None, is_some, bytes_eq, refl, sym, ap, subst, ◌∙◌}
+use Rattle.std.proofs.Common.{◌≡◌, ℕ, ◌+◌, ◌-◌, List, [], ◌∷◌, ◌++◌, Bool, true, false, cond, Option, Some, None, bytes_eq, refl, sym, ap, subst, ◌∙◌, arith}
 use Rattle.std.proofs.lemmas.Map.Text.{is_eq-slice_cmp}
 use Rattle.std.specs.BTreeMap as tree
 use Rattle.std.specs.BTreeMap.{BTreeMap}
-use Rattle.std.specs.HashMap as hash
-use Rattle.std.specs.HashMap.{HashMap}
-use Rattle.std.specs.Option.{option_map_or, unwrap_or}
+use Rattle.std.specs.Option.{unwrap_or}
 use Rattle.std.specs.Cmp.{eq_by_cmp_equiv}
 use Rattle.std.specs.Cmp.Lexicographic.{slice_cmp, bytes_decides, nat_list_cmp_total, nat_list_eq_equiv}
 use Rattle.std.specs.Map.{KeepsOthers, IsKeyTest, AreApart, lookup}
 use Rattle.std.specs.Ordering.{is_eq, nat_cmp}
 use Rattle.ms_base.specs.declared.keys.WorkerKey.{WorkerKey}
-use Rattle.host_core.specs.Indexes.{same_channel}
 use Rattle.host_core.specs.State.{same_worker}
-use Rattle.host_core.proofs.StreamsLemmas.{worker-same}
+use Rattle.host_core.proofs.ByWorker.{worker-same}
 
 -- ---- a change at one key
 
@@ -28,50 +25,12 @@ module _ {Q Y : Type 0} (same : Q → Q → Bool) (tied : (a b : Q) → same a b
   changed-at h is q false t e = e
 
   -- the value at the key is a function of what it was
-  changed : (h : Y → Y) → y ≡ h (f k) → (q : Q) → g q ≡ cond (same k q) (h (f q)) (f q)
+  pub changed : (h : Y → Y) → y ≡ h (f k) → (q : Q) → g q ≡ cond (same k q) (h (f q)) (f q)
   changed h is q = changed-at h is q (same k q) refl (after q)
-
-  unchanged-at : y ≡ f k → (q : Q) (b : Bool) → same k q ≡ b → g q ≡ cond b y (f q) → g q ≡ f q
-  unchanged-at is q true t e = e ∙ (is ∙ ap f (tied k q t))
-  unchanged-at is q false t e = e
-
-  -- the value at the key is what it was
-  unchanged : y ≡ f k → (q : Q) → g q ≡ f q
-  unchanged is q = unchanged-at is q (same k q) refl (after q)
-
--- ---- a table whose keys are channels
-
-module _ {V : Type 0} (items : V → List ℕ) where
-  abbrev pub items_in : Option V → List ℕ
-  items_in o = option_map_or items o []
-
-module _ {V S : Type 0} (items : V → List ℕ) where
-  abbrev pub places_in : HashMap (ℕ × ℕ) V S → WorkerKey → List ℕ
-  places_in m w = items_in items (hash.get same_channel m (w.slot, w.generation))
-
-  module _ (m n : HashMap (ℕ × ℕ) V S) (worker : WorkerKey) (k : ℕ × ℕ) (v : V) (is : k ≡ (worker.slot, worker.generation))
-      (updates : hash.UpdatesBy same_channel (same_channel k) m n (Some v)) where
-    places-after : (w : WorkerKey) → places_in n w ≡ cond (same_worker worker w) (items v) (places_in m w)
-    places-after w =
-        let here : hash.get same_channel n (w.slot, w.generation) ≡ cond (same_worker worker w) (Some v) (hash.get same_channel m (w.slot, w.generation)) =
-        updates.0 (w.slot, w.generation)
-        ∙ ap (λ (q : ℕ × ℕ). cond (same_channel q (w.slot, w.generation)) (Some v) (hash.get same_channel m (w.slot, w.generation))) is
-        in
-        ap (items_in items) here ∙ cond-map (items_in items) (same_worker worker w) (Some v) (hash.get same_channel m (w.slot, w.generation))
-
-    pub place-added : (place : ℕ) → items v ≡ items_in items (hash.get same_channel m k) ++ place ∷ [] → (w : WorkerKey)
-        → places_in n w ≡ cond (same_worker worker w) (places_in m w ++ place ∷ []) (places_in m w)
-    place-added place e =
-        changed same_worker worker-same (places_in m) (places_in n) worker (items v) places-after (λ places. places ++ place ∷ [])
-        (e ∙ ap (λ (q : ℕ × ℕ). items_in items (hash.get same_channel m q) ++ place ∷ []) is)
-
-    pub places-kept : items v ≡ items_in items (hash.get same_channel m k) → (w : WorkerKey) → places_in n w ≡ places_in m w
-    places-kept e =
-        unchanged same_worker worker-same (places_in m) (places_in n) worker (items v) places-after (e ∙ ap (λ (q : ℕ × ℕ). items_in items (hash.get same_channel m q)) is)
 
 -- ---- a tree whose keys are texts
 
-bytes-same : (a b : List ℕ) → bytes_eq a b ≡ true → a ≡ b
+pub bytes-same : (a b : List ℕ) → bytes_eq a b ≡ true → a ≡ b
 bytes-same a b = (bytes_decides a b).0
 
 apart : (bs cs ks : List ℕ) → bytes_eq bs cs ≡ false → is_eq (slice_cmp nat_cmp bs ks) ≡ true → is_eq (slice_cmp nat_cmp cs ks) ≡ false
@@ -95,8 +54,16 @@ module _ {K X : Type 0} (bytes : K → List ℕ) where
     text-at other false f =
         others _ _ _ m.entries n.entries updates.3 (λ x y. (eq_by_cmp_equiv nat_list_cmp_total).congr other (bytes x) (bytes y)) (λ k. apart name other (bytes k) f)
 
-    text-after : (other : List ℕ) → at_text n other ≡ cond (bytes_eq name other) v (at_text m other)
+    pub text-after : (other : List ℕ) → at_text n other ≡ cond (bytes_eq name other) v (at_text m other)
     text-after other = text-at other (bytes_eq name other) refl
+
+one-more : (b : Bool) (n : ℕ) → cond b (n + 1) n ≡ n + cond b 1 0
+one-more true n = refl
+one-more false n = omega arith
+
+one-less : (b : Bool) (n : ℕ) → cond b (n - 1) n ≡ n - cond b 1 0
+one-less true n = refl
+one-less false n = omega arith
 
 module _ {K : Type 0} (bytes : K → List ℕ) where
   abbrev pub count_in : BTreeMap K ℕ → List ℕ → ℕ
@@ -109,13 +76,31 @@ module _ {K : Type 0} (bytes : K → List ℕ) where
         let read : Option ℕ → ℕ = λ o. unwrap_or o 0 in
         ap read (text-after bytes name m n (Some v) updates other) ∙ cond-map read (bytes_eq name other) (Some v) (at_text bytes m other)
 
-    pub count-changed : (h : ℕ → ℕ) → v ≡ h (count_in m name) → (other : List ℕ)
-        → count_in n other ≡ cond (bytes_eq name other) (h (count_in m other)) (count_in m other)
-    count-changed = changed bytes_eq bytes-same (count_in m) (count_in n) name v count-after
+    pub count-raised : v ≡ count_in m name + 1 → (other : List ℕ) → count_in n other ≡ count_in m other + cond (bytes_eq name other) 1 0
+    count-raised is other =
+        changed bytes_eq bytes-same (count_in m) (count_in n) name v count-after (λ c. c + 1) is other
+        ∙ one-more (bytes_eq name other) (count_in m other)
 
-    pub counts-kept : v ≡ count_in m name → (other : List ℕ) → count_in n other ≡ count_in m other
-    counts-kept = unchanged bytes_eq bytes-same (count_in m) (count_in n) name v count-after
+    pub count-lowered : v ≡ count_in m name - 1 → (other : List ℕ) → count_in n other ≡ count_in m other - cond (bytes_eq name other) 1 0
+    count-lowered is other =
+        changed bytes_eq bytes-same (count_in m) (count_in n) name v count-after (λ c. c - 1) is other
+        ∙ one-less (bytes_eq name other) (count_in m other)
 
-pub absent-count : (o : Option ℕ) → is_some o ≡ false → 0 ≡ unwrap_or o 0
-absent-count None h = refl
-absent-count (Some n) h = absurd cc
+  -- a name that was not there
+  pub count-first : (name key : List ℕ) (m here n : BTreeMap K ℕ) → key ≡ name → here ≡ m → None ≡ at_text bytes m name
+      → tree.UpdatesBy (λ x y. slice_cmp nat_cmp (bytes x) (bytes y)) (λ k. slice_cmp nat_cmp key (bytes k)) here n (Some 1)
+      → (other : List ℕ) → count_in n other ≡ count_in m other + cond (bytes_eq name other) 1 0
+  count-first name key m here n same still none updates other =
+      let lacking : count_in here key ≡ 0 =
+      ap (λ t. count_in t key) still ∙ (ap (count_in m) same ∙ sym (ap (λ p. unwrap_or p 0) none))
+      in
+      count-raised key here n 1 updates (omega arith) other
+      ∙ (ap (λ t. count_in t other + cond (bytes_eq key other) 1 0) still ∙ ap (λ k. count_in m other + cond (bytes_eq k other) 1 0) same)
+
+-- ---- a table whose keys are channels
+
+pub count-more : (old new : WorkerKey → Option ℕ) (k : WorkerKey) (v : ℕ) → ((w : WorkerKey) → new w ≡ cond (same_worker k w) (Some v) (old w)) → v ≡ unwrap_or (old k) 0 + 1
+    → (w : WorkerKey) → unwrap_or (new w) 0 ≡ cond (same_worker k w) (unwrap_or (old w) 0 + 1) (unwrap_or (old w) 0)
+count-more old new k v after is =
+    let read : Option ℕ → ℕ = λ o. unwrap_or o 0 in
+    changed same_worker worker-same (λ w. read (old w)) (λ w. read (new w)) k v (λ w. ap read (after w) ∙ cond-map read (same_worker k w) (Some v) (old w)) (λ n. n + 1) is

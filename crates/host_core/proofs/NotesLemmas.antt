@@ -1,21 +1,27 @@
--- The index of calls after one more note, and after notes were dropped.
-use Rattle.std.proofs.Common.{◌≡◌, ⊎_elim, ℕ, zero, suc, List, [], ◌∷◌, ◌++◌, length, true, false, cond, Option, None, Some, IfSome, is_some, option_and_then, slice_get, take, refl, sym, ap, subst, ◌∙◌, arith}
+-- The indexes of the notes after one more note, and without the last.
+use Rattle.std.proofs.Common.{◌≡◌, ⊎_elim, ℕ, zero, suc, ◌+◌, ◌-◌, Bool, inl, inr, add-one, length-append, List, [], ◌∷◌, ◌++◌, length, true, false, cond, Option, None, Some, IfSome, is_some, option_and_then, slice_get, take, refl, sym, ap, subst, ◌∙◌, arith}
 use Rattle.std.specs.BTreeMap.{BTreeMap, Updates}
 use Rattle.std.specs.Cmp.{both_tied, unsigned_ties}
 use Rattle.std.specs.Ordering.{is_eq, nat_cmp, ordering_then}
 use Rattle.std.specs.Prelude.{◌==◌}
 use Rattle.std.proofs.Math.Seq.{take-append_seam}
 use Rattle.std.proofs.lemmas.Bool.{cases_Bool}
+use Rattle.std.proofs.lemmas.List.{append-nil, take-append-le, take_all}
+use Rattle.std.proofs.lemmas.List.Concat.{flat_map-append}
 use Rattle.std.proofs.lemmas.Bool.Decides.{nat_tests}
 use Rattle.ms_base.specs.declared.keys.CallKey.{CallKey}
 use Rattle.ms_base.specs.declared.outcome.Outcome.{Outcome}
 use Rattle.ms_base.specs.declared.outcome.Verdict.{Verdict}
 use Rattle.ms_base.specs.Outcome.{verdict_of_outcome}
 use Rattle.host_core.proofs.LongerLemmas.{slice_get-last}
-use Rattle.host_core.specs.Notes.{IsPlaceOf, place_of, verdict_at}
-use Rattle.host_core.specs.Run.{first_of_two, same_call, settled_in, verdict_in}
-use Rattle.host_core.specs.declared.note.Note.{Note}
-use Rattle.host_core.specs.declared.note.Note.TheVariants as note
+use Rattle.ms_base.specs.declared.keys.WorkerKey.{WorkerKey}
+use Rattle.host_core.specs.NoteIndexes.{AreIndexed, IsPlaceOf, bytes_to, place_of, verdict_at}
+use Rattle.channel_frames.specs.Frames.{frame}
+use Rattle.host_core.specs.Run.{first_of_two, payload_to, same_call, sent_of, settled_in, verdict_in}
+use Rattle.host_core.specs.State.{same_worker}
+use Rattle.host_core.specs.declared.notes.sent.SentBytes.{SentBytes}
+use Rattle.transcript.specs.declared.note.Note.{Note}
+use Rattle.transcript.specs.declared.note.Note.TheVariants as note
 
 none_from_is_some : {A : Type 0} (o : Option A) → is_some o ≡ false → o ≡ None
 none_from_is_some None h = refl
@@ -203,3 +209,83 @@ take-first (x ∷ xs) (suc n) (suc i) key h =
 pub is_place-take : (notes : List Note) (n : ℕ) (key : CallKey) (place : Option ℕ) → IsPlaceOf notes key place → IsPlaceOf (take n notes) key place
 is_place-take notes n key None before = record { verdict = verdict_in-take n notes key before.verdict; first = tt }
 is_place-take notes n key (Some i) before = record { verdict = take-at notes n i key before.verdict before.first; first = take-first notes n i key before.first }
+
+-- ---- the bytes that went to a worker
+
+sent-more : (notes : List Note) (next : Note) (worker : WorkerKey) → sent_of (notes ++ next ∷ []) worker ≡ sent_of notes worker ++ payload_to worker next
+sent-more notes next worker = flat_map-append (payload_to worker) notes (next ∷ []) ∙ ap (λ b. sent_of notes worker ++ b) (append-nil (payload_to worker next))
+
+not-to : (next : Note) (worker : WorkerKey) → ((to : WorkerKey) (payload : List ℕ) → next ≡ note.Sent to payload → ⊥) → payload_to worker next ≡ []
+not-to (note.Sent to payload) worker h = absurd (h to payload refl)
+not-to other worker h = refl
+
+sent-silent : (notes : List Note) (next : Note) (worker : WorkerKey) → ((to : WorkerKey) (payload : List ℕ) → next ≡ note.Sent to payload → ⊥)
+    → sent_of (notes ++ next ∷ []) worker ≡ sent_of notes worker
+sent-silent notes next worker h =
+    sent-more notes next worker ∙ (ap (λ b. sent_of notes worker ++ b) (not-to next worker h) ∙ append-nil (sent_of notes worker))
+
+picked-bytes : (b : Bool) (xs ys : List ℕ) → cond b (xs ++ ys) xs ≡ xs ++ cond b ys []
+picked-bytes true xs ys = refl
+picked-bytes false xs ys = sym (append-nil xs)
+
+-- the frame is added to the bytes of its worker
+sent-framed : (notes : List Note) (to worker : WorkerKey) (payload : List ℕ)
+    → sent_of (notes ++ note.Sent to payload ∷ []) worker ≡ cond (same_worker to worker) (sent_of notes worker ++ frame payload) (sent_of notes worker)
+sent-framed notes to worker payload =
+    sent-more notes (note.Sent to payload) worker ∙ sym (picked-bytes (same_worker to worker) (sent_of notes worker) (frame payload))
+
+-- ---- the indexes with one more note
+
+says-none : (next : Note) (to : WorkerKey) (payload : List ℕ) → next ≡ note.Sent to payload → (call : CallKey) (outcome : Outcome) → next ≡ note.Settled call outcome → ⊥
+says-none next to payload is call outcome other = let clash : note.Sent to payload ≡ note.Settled call outcome = sym is ∙ other in cc
+
+pub indexed-sent : (notes : List Note) (next : Note) (places : BTreeMap (ℕ × ℕ) ℕ) (sent sent' : SentBytes) (to : WorkerKey) (payload : List ℕ)
+    → next ≡ note.Sent to payload → AreIndexed notes places sent
+    → ((w : WorkerKey) → bytes_to sent' w ≡ cond (same_worker to w) (bytes_to sent w ++ frame payload) (bytes_to sent w)) → AreIndexed (notes ++ next ∷ []) places sent'
+indexed-sent notes next places sent sent' to payload is indexed grown = record {
+  settled = is_place-none notes next places (says-none next to payload is) indexed.settled;
+  bytes = λ w.
+      grown w
+      ∙ (ap (λ b. cond (same_worker to w) (b ++ frame payload) b) (indexed.bytes w)
+      ∙ (sym (sent-framed notes to w payload) ∙ ap (λ n. sent_of (notes ++ n ∷ []) w) (sym is)));
+}
+
+pub indexed-placed : (notes : List Note) (next : Note) (places places' : BTreeMap (ℕ × ℕ) ℕ) (sent : SentBytes)
+    → ((to : WorkerKey) (payload : List ℕ) → next ≡ note.Sent to payload → ⊥) → AreIndexed notes places sent
+    → ((key : CallKey) → IsPlaceOf (notes ++ next ∷ []) key (place_of places' key)) → AreIndexed (notes ++ next ∷ []) places' sent
+indexed-placed notes next places places' sent h indexed placed =
+    record { settled = placed; bytes = λ w. indexed.bytes w ∙ sym (sent-silent notes next w h) }
+
+pub indexed-kept : (notes : List Note) (places places' : BTreeMap (ℕ × ℕ) ℕ) (sent sent' : SentBytes) → AreIndexed notes places sent
+    → ((key : CallKey) → IsPlaceOf notes key (place_of places' key)) → ((w : WorkerKey) → bytes_to sent' w ≡ bytes_to sent w) → AreIndexed notes places' sent'
+indexed-kept notes places places' sent sent' indexed placed same = record { settled = placed; bytes = λ w. same w ∙ indexed.bytes w }
+
+-- ---- the indexes without the last note
+
+cut-at : (b : Bool) (xs ys zs : List ℕ) (n : ℕ) → zs ≡ cond b (xs ++ ys) xs → n ≡ length ys → cond b (take (length zs - n) zs) zs ≡ xs
+cut-at true xs ys zs n e is =
+    let size : length zs - n ≡ length xs = omega (arith, ap length e, length-append xs ys) in
+    ap (λ k. take k zs) size ∙ (ap (take (length xs)) e ∙ take-append_seam xs ys)
+cut-at false xs ys zs n e is = e
+
+pub indexed-cut : (notes front : List Note) (places : BTreeMap (ℕ × ℕ) ℕ) (sent sent' : SentBytes) (to : WorkerKey) (payload : List ℕ) (count : ℕ)
+    → notes ≡ front ++ note.Sent to payload ∷ [] → count ≡ 4 + length payload → AreIndexed notes places sent
+    → ((w : WorkerKey) → bytes_to sent' w ≡ cond (same_worker to w) (take (length (bytes_to sent w) - count) (bytes_to sent w)) (bytes_to sent w)) → AreIndexed front places sent'
+indexed-cut notes front places sent sent' to payload count is size indexed cut = record {
+  settled = λ key.
+      subst (λ ns. IsPlaceOf ns key (place_of places key)) (ap (take (length front)) is ∙ take-append_seam front (note.Sent to payload ∷ []))
+      (is_place-take notes (length front) key (place_of places key) (indexed.settled key));
+  bytes = λ w.
+      cut w
+      ∙ cut-at (same_worker to w) (sent_of front w) (frame payload) (bytes_to sent w) count (indexed.bytes w ∙ (ap (λ ns. sent_of ns w) is ∙ sent-framed front to w payload))
+      (omega (arith, size));
+}
+
+pub indexed-popped : (notes front : List Note) (next : Note) (places : BTreeMap (ℕ × ℕ) ℕ) (sent : SentBytes) → notes ≡ front ++ next ∷ []
+    → ((to : WorkerKey) (payload : List ℕ) → next ≡ note.Sent to payload → ⊥) → AreIndexed notes places sent → AreIndexed front places sent
+indexed-popped notes front next places sent is h indexed = record {
+  settled = λ key.
+      subst (λ ns. IsPlaceOf ns key (place_of places key)) (ap (take (length front)) is ∙ take-append_seam front (next ∷ []))
+      (is_place-take notes (length front) key (place_of places key) (indexed.settled key));
+  bytes = λ w. indexed.bytes w ∙ (ap (λ ns. sent_of ns w) is ∙ sent-silent front next w h);
+}

@@ -1,185 +1,182 @@
--- A journal with one more entry; how much of each there is after a journal.
-use Rattle.std.proofs.Common.{◌≡◌, ℕ, ◌+◌, ◌≤◌, ◌<◌, ◌^◌, List, [], ◌∷◌, ◌++◌, length, map, Bool, true, false, ◌&&◌, cond, Option, Some, None, refl, sym, ap, ◌∙◌, subst, arith, append_assoc, length-append, suc}
-use Rattle.std.proofs.lemmas.List.{length-map}
+-- What holds of a host from its first entry on.
+use Rattle.std.proofs.Common.{◌≡◌, ◌≤◌, ◌<◌, ◌^◌, ◌+◌, ℕ, List, [], ◌∷◌, ◌++◌, length, map, drop, Bool, true, false, ◌&&◌, ◌==◌, Option, Some, None, Result, Ok, Err, is_err, OnOk, IfOk, refl, sym, ap, ◌∙◌, subst, arith, length-append}
+use Rattle.std.specs.List.{flat_map}
+use Rattle.std.proofs.lemmas.List.{append-nil}
+use Rattle.std.proofs.lemmas.List.Concat.{flat_map-append, flat_map-cons}
+use Rattle.std.proofs.lemmas.List.Sums.{count_by-le-length}
+use Rattle.ms_base.specs.declared.applied.Applied.{Applied}
+use Rattle.ms_base.specs.declared.applied.ApplyFault.{ApplyFault}
 use Rattle.ms_base.specs.declared.entry.Entry.{Entry}
 use Rattle.ms_base.specs.declared.entry.Entry.TheVariants as entry
-use Rattle.ms_base.specs.declared.entry.Op.{Op}
-use Rattle.ms_base.specs.declared.entry.Op.TheVariants as op
 use Rattle.ms_base.specs.declared.keys.CallKey.{CallKey}
 use Rattle.ms_base.specs.declared.keys.WorkerKey.{WorkerKey}
 use Rattle.ms_base.specs.declared.outcome.Outcome.{Outcome}
 use Rattle.ms_base.specs.declared.outcome.Outcome.TheVariants as outcome
-use Rattle.host_core.specs.Frames.{new_frames, begins_with_frame, is_broken}
-use Rattle.host_core.specs.Message.{message_of}
-use Rattle.host_core.specs.State.{State, start, is_up, is_wanted, named, next_call, pending, slot_of, slot_with, stream_of, settled, settle_if}
-use Rattle.host_core.specs.Call.{by_refusal, accepted_call, first_refusal, router_by_slot, router_by_worker}
-use Rattle.host_core.specs.Step.{Starts, Says, steps, heard, accepted_response, refused_response, noticed, running_in, says_running, entry_step, is_unbuilt}
-use Rattle.host_core.specs.Run.{run, state_of, notes_of, sent_of, payload_to}
-use Rattle.host_core.specs.Kept.{kept, HasRoom}
-use Rattle.host_core.specs.declared.message.Message.{Message}
-use Rattle.host_core.specs.declared.message.Message.TheVariants as message
-use Rattle.host_core.specs.declared.note.Note.{Note}
-use Rattle.host_core.specs.declared.objects.Object.{Object}
-use Rattle.host_core.specs.declared.requests.Request.{Request}
-use Rattle.host_core.specs.declared.slots.Slot.{Slot}
-use Rattle.host_core.proofs.FramesLemmas.{no_frame-rest_of, is_broken-append}
-use Rattle.host_core.proofs.StreamsLemmas.{stream_of-rests}
+use Rattle.channel_frames.specs.Frames.{rest_of, rest_within, is_broken}
+use Rattle.journal_text.specs.Written.{entry_line, head_line, journal_size, max_journal}
+use Rattle.transcript.specs.Lines.{note_line}
+use Rattle.host_core.specs.Apply.{is_unbuilt}
+use Rattle.host_core.specs.Laws.{HasDrawn}
+use Rattle.host_core.specs.LookUps.{SlotsView, shown_of, unread_of}
+use Rattle.host_core.specs.Run.{Journal, HostView, with_entry, after, state_of, notes_of, transcript_of}
+use Rattle.host_core.specs.State.{State, start, Object, Owner, Call, Entered, Slot, is_to_make, is_up, stream_of}
+use Rattle.host_core.specs.Step.{Micro, step, made, owner_settled, waiting_call_settled}
+use Rattle.host_core.specs.Tables.{BreaksNone, HasRoom, IsHeld, IsKept, IsRun}
+use Rattle.host_core.specs.declared.readers.Readers.{Readers}
+use Rattle.host_core.specs.declared.tables.Tables.{Tables}
+use Rattle.host_core.proofs.Changes.{Change, still, notes, refuses, wants, issues, starts, joins, accepts, rejects, runs, change, without, running_noted}
+use Rattle.host_core.proofs.SoundLemmas.{sound_start}
+use Rattle.host_core.proofs.TraceLemmas.{along, state-last, lines-last}
 
--- ---- one more entry
+-- ---- the seed stays
 
--- what follows a run's state and notes
-abbrev after : State × List Note → Entry → State × List Note
-after r e = ((entry_step r.0 e).0, r.1 ++ (entry_step r.0 e).1)
+owner-seed : (owner : Owner) (o : Outcome) (s : State) → (owner_settled owner o s).seed ≡ s.seed
+owner-seed (Call key) o s = refl
 
-run-last : (s : State) (es : List Entry) (e : Entry) → run s (es ++ e ∷ []) ≡ after (run s es) e
-run-last s [] e = ap (λ notes. ((entry_step s e).0, notes)) (append_nil (entry_step s e).1)
-  where
-    append_nil : (xs : List Note) → xs ++ [] ≡ xs
-    append_nil [] = refl
-    append_nil (x ∷ xs) = ap (λ ys. x ∷ ys) (append_nil xs)
-run-last s (d ∷ es) e =
-    let first = entry_step s d in
-    ap (λ (q : State × List Note). (q.0, first.1 ++ q.1)) (run-last first.0 es e)
-    ∙ ap (λ notes. ((entry_step (run first.0 es).0 e).0, notes)) (sym (append_assoc first.1 (run first.0 es).1 (entry_step (run first.0 es).0 e).1))
+made-seed : (object : Option Object) (s : State) → (made object s).seed ≡ s.seed
+made-seed None s = refl
+made-seed (Some o) s = refl
 
-pub state_of-last : (seed : ℕ) (es : List Entry) (e : Entry) → state_of seed (es ++ e ∷ []) ≡ (entry_step (state_of seed es) e).0
-state_of-last seed es e = ap (λ (r : State × List Note). r.0) (run-last (start seed) es e)
+waiting-seed : (call : Option CallKey) (s : State) → (waiting_call_settled call s).seed ≡ s.seed
+waiting-seed None s = refl
+waiting-seed (Some call) s = refl
 
-pub notes_of-last : (seed : ℕ) (es : List Entry) (e : Entry) → notes_of seed (es ++ e ∷ []) ≡ notes_of seed es ++ (entry_step (state_of seed es) e).1
-notes_of-last seed es e = ap (λ (r : State × List Note). r.1) (run-last (start seed) es e)
+change-seed : {s t : State} → Change s t → t.seed ≡ s.seed
+change-seed still = refl
+change-seed (notes n h) = refl
+change-seed (refuses lane o x) = refl
+change-seed (wants lane o name budget) = refl
+change-seed (issues lane o under object channel id payload h) = refl
+change-seed (starts worker) = refl
+change-seed (joins worker bytes) = refl
+change-seed {s} (accepts worker id r e) = owner-seed r.owner outcome.Done (made r.makes (without worker id s)) ∙ made-seed r.makes (without worker id s)
+change-seed {s} (rejects worker id r o e) = owner-seed r.owner o (without worker id s)
+change-seed {s} (runs worker x e) = waiting-seed x.call (running_noted x s)
 
--- ---- how much there is: no more serials, calls and requests than entries
+abbrev HasSeed : ℕ → State → Type 0
+HasSeed seed s = s.seed ≡ seed
 
-record Holds (seed n : ℕ) (s : State) : Type 0 where
-  seeded : s.seed ≡ seed
-  from_one : 1 ≤ s.next
-  serials : s.next ≤ n + 1
-  calls : length s.calls ≤ n
-  requests : length s.requests ≤ n
+step-seed : (seed : ℕ) (s : State) (m : Micro) → HasSeed seed s → HasSeed seed (step s m)
+step-seed seed s m h = change-seed (change s m) ∙ h
 
-more : (seed n : ℕ) (s : State) → Holds seed n s → Holds seed (n + 1) s
-more seed n s h = record { seeded = h.seeded; from_one = h.from_one; serials = omega arith; calls = omega arith; requests = omega arith }
+seed-of : (j : Journal) → (state_of j).seed ≡ j.seed
+seed-of j = along (HasSeed j.seed) (step-seed j.seed) (start j.seed) j.entries refl
 
-holds-by_slot : (seed n : ℕ) (s : State) (k : CallKey) (o : Object) (x : Option Slot) (name : List ℕ) → Holds seed n s → Holds seed (n + 1) (router_by_slot s k o x name).0
-holds-by_slot seed n s k o None name h = more seed n s h
-holds-by_slot seed n s k o (Some x) name h = record {
-  seeded = h.seeded;
-  from_one = omega arith;
-  serials = omega arith;
-  calls = omega (arith, length-append s.calls (k ∷ []));
-  requests = omega (arith, length-append {A = Request}, h.requests);
+-- ---- the first
+
+abbrev pub journal : ℕ → List Entry → Journal
+journal seed entries = record { seed = seed; entries = entries }
+
+none-unread : rest_of [] ≡ []
+unfolding rest_within
+none-unread = refl
+
+pub run-new : (seed size : ℕ) (t : Tables) (r : Readers) → seed < 2 ^ 60 → size ≡ length (head_line seed) → size ≤ 31 → IsKept (start seed) t → t.slots.shown ≡ []
+    → ((w : WorkerKey) → unread_of r w ≡ []) → IsRun (journal seed []) false size t r
+run-new seed size t r fits is few kept shown none = record {
+  seed_fits = fits;
+  size_is = is ∙ ap length (sym (append-nil (head_line seed)));
+  within_limit = omega (arith, few);
+  notes_are = kept.notes;
+  slots_show = shown;
+  held = λ e. record { sound = sound_start seed; kept = kept; read = λ w. none w ∙ sym none-unread };
 }
 
-holds-by_worker : (seed n : ℕ) (s : State) (k : CallKey) (o : Option Object) (name : List ℕ) → Holds seed n s → Holds seed (n + 1) (router_by_worker s k o name).0
-holds-by_worker seed n s k None name h = more seed n s h
-holds-by_worker seed n s k (Some o) name h = holds-by_slot seed n s k o (slot_with s.slots o.serial) name h
+-- ---- one more
 
-holds-accepted : (seed n : ℕ) (s : State) (k : CallKey) (o : Op) → Holds seed n s → Holds seed (n + 1) (accepted_call s k o).0
-holds-accepted seed n s k (op.Worker name budget) h = record {
-  seeded = h.seeded;
-  from_one = omega arith;
-  serials = omega arith;
-  calls = omega (arith, length-append s.calls (k ∷ []));
-  requests = omega arith;
-}
-holds-accepted seed n s k (op.Router name worker options) h = holds-by_worker seed n s k (named s.objects worker) name h
+size-more : (seed : ℕ) (es : List Entry) (e : Entry) → journal_size seed (es ++ e ∷ []) ≡ journal_size seed es + length (entry_line e)
+size-more seed es e =
+    let head = head_line seed in
+    let lines = flat_map entry_line es in
+    omega (
+      arith,
+      length-append head (flat_map entry_line (es ++ e ∷ [])),
+      ap length (flat_map-append entry_line es (e ∷ [])),
+      length-append lines (flat_map entry_line (e ∷ [])),
+      ap length (flat_map-cons entry_line e []),
+      length-append (entry_line e) [],
+      length-append head lines,
+    )
 
-holds-by_refusal : (seed n : ℕ) (s : State) (k : CallKey) (o : Op) (r : Option Outcome) → Holds seed n s → Holds seed (n + 1) (by_refusal s k o r).0
-holds-by_refusal seed n s k o None h = holds-accepted seed n s k o h
-holds-by_refusal seed n s k o (Some r) h = record {
-  seeded = h.seeded;
-  from_one = h.from_one;
-  serials = omega arith;
-  calls = omega (arith, length-append s.calls (k ∷ []));
-  requests = omega arith;
-}
-
-holds-settled : (seed n : ℕ) (s : State) (w : WorkerKey) (id : ℕ) → Holds seed n s → length (settled s.requests w id) ≤ n
-holds-settled seed n s w id h = omega (arith, h.requests, length-map s.requests (settle_if w id))
-
-holds-accepted_response : (seed n : ℕ) (s : State) (w : WorkerKey) (id : ℕ) (r : Option Request) → Holds seed n s → Holds seed n (accepted_response s w id r).0
-holds-accepted_response seed n s w id None h = h
-holds-accepted_response seed n s w id (Some r) h = record { seeded = h.seeded; from_one = h.from_one; serials = h.serials; calls = h.calls; requests = holds-settled seed n s w id h }
-
-holds-refused_response : (seed n : ℕ) (s : State) (w : WorkerKey) (id : ℕ) (o : Outcome) (r : Option Request) → Holds seed n s → Holds seed n (refused_response s w id o r).0
-holds-refused_response seed n s w id o None h = h
-holds-refused_response seed n s w id o (Some r) h = record { seeded = h.seeded; from_one = h.from_one; serials = h.serials; calls = h.calls; requests = holds-settled seed n s w id h }
-
-holds-cond : (seed n : ℕ) (b : Bool) (p q : State × List Note) → Holds seed n p.0 → Holds seed n q.0 → Holds seed n (cond b p q).0
-holds-cond seed n true p q h k = h
-holds-cond seed n false p q h k = k
-
-again : (seed n : ℕ) (s t : State) → s.seed ≡ t.seed → s.next ≡ t.next → s.calls ≡ t.calls → s.requests ≡ t.requests → Holds seed n s → Holds seed n t
-again seed n s t a b c d h = record {
-  seeded = sym a ∙ h.seeded;
-  from_one = subst (λ m. 1 ≤ m) b h.from_one;
-  serials = subst (λ m. m ≤ n + 1) b h.serials;
-  calls = subst (λ (xs : List CallKey). length xs ≤ n) c h.calls;
-  requests = subst (λ (xs : List Request). length xs ≤ n) d h.requests;
+shown-kept : (s : State) (t : Tables) (slots : SlotsView) → slots.slots ≡ t.slots.slots → IsKept s t → IsKept s (record t { slots = slots })
+shown-kept s t slots e k = record {
+  seed = k.seed;
+  objects = k.objects;
+  next = k.next;
+  pending = k.pending;
+  issued = k.issued;
+  being_made = k.being_made;
+  calls = k.calls;
+  slots = e ∙ k.slots;
+  notes = k.notes;
 }
 
-holds-running_in : (seed n : ℕ) (s : State) (w : WorkerKey) (x : Option Slot) → Holds seed n s → Holds seed n (running_in s w x).0
-holds-running_in seed n s w None h = h
-holds-running_in seed n s w (Some x) h = holds-cond seed n x.running _ _ h (again seed n s _ refl refl refl refl h)
-
-holds-noticed : (seed n : ℕ) (s : State) (w : WorkerKey) (target event : List ℕ) → Holds seed n s → Holds seed n (noticed s w target event).0
-holds-noticed seed n s w target event h = holds-cond seed n (says_running target event) _ _ (holds-running_in seed n s w (slot_of s.slots w) h) h
-
-holds-heard : (seed n : ℕ) (s : State) (w : WorkerKey) (m : Message) → Holds seed n s → Holds seed n (heard s w m).0
-holds-heard seed n s w (message.Accepted id) h = holds-accepted_response seed n s w id (pending s.requests w id) h
-holds-heard seed n s w (message.Refused id error reason) h = holds-refused_response seed n s w id (outcome.Worker error reason) (pending s.requests w id) h
-holds-heard seed n s w (message.Notice target event) h = holds-noticed seed n s w target event h
-holds-heard seed n s w (message.Packet id bytes) h = h
-holds-heard seed n s w (message.Log level text) h = h
-holds-heard seed n s w message.Unexpected h = h
-
-holds-said : (seed n : ℕ) (s : State) (w : WorkerKey) (payloads : List (List ℕ)) → Holds seed n s → Holds seed n (steps s (map (λ payload. Says w (message_of payload)) payloads)).0
-holds-said seed n s w [] h = h
-holds-said seed n s w (p ∷ ps) h = holds-said seed n (heard s w (message_of p)).0 w ps (holds-heard seed n s w (message_of p) h)
-
-holds-start : (b : Bool) (seed n : ℕ) (s : State) (w : WorkerKey) → Holds seed n s → Holds seed n (steps s (cond b (Starts w ∷ []) [])).0
-holds-start true seed n s w h = again seed n s _ refl refl refl refl h
-holds-start false seed n s w h = h
-
-holds-chunk : (b : Bool) (seed n : ℕ) (s t : State) (w : WorkerKey) (payloads : List (List ℕ)) → Holds seed n s → Holds seed n t → Holds seed n (steps (cond b t s) (cond b (map (λ payload. Says w (message_of payload)) payloads) [])).0
-holds-chunk true seed n s t w ps h k = holds-said seed n t w ps k
-holds-chunk false seed n s t w ps h k = h
-
-holds-entry : (seed n : ℕ) (s : State) (e : Entry) → Holds seed n s → Holds seed (n + 1) (entry_step s e).0
-holds-entry seed n s (entry.Call lane o) h = holds-by_refusal seed n s (next_call s.calls lane) o (first_refusal s o) h
-holds-entry seed n s (entry.Spawned w up) h = more seed n _ (holds-start (up && is_wanted s w) seed n s w h)
-holds-entry seed n s (entry.Chunk w bytes) h =
-    more seed n _ (holds-chunk (is_up s w) seed n s _ w (new_frames (stream_of s.streams w) bytes) h (again seed n s _ refl refl refl refl h))
-
-holds-run : (seed n : ℕ) (s : State) (es : List Entry) → Holds seed n s → Holds seed (n + length es) (run s es).0
-holds-run seed n s [] h = subst (λ m. Holds seed m s) (omega arith) h
-holds-run seed n s (e ∷ es) h =
-    let rest : n + 1 + length es ≡ n + suc (length es) = omega arith in
-    subst (λ m. Holds seed m (run (entry_step s e).0 es).0) rest (holds-run seed (n + 1) (entry_step s e).0 es (holds-entry seed n s e h))
-
-pub has_room : (seed : ℕ) (es : List Entry) → seed < 2 ^ 60 → length es + 2 < 2 ^ 32 → HasRoom (kept (state_of seed es))
-has_room seed es fits few =
-    let s = state_of seed es in
-    let h = holds-run seed 0 (start seed) es (record { seeded = refl; from_one = omega arith; serials = omega arith; calls = omega arith; requests = omega arith }) in
+pub run-more : (seed : ℕ) (es es' : List Entry) (e : Entry) (spent : Bool) (size : ℕ) (t : Tables) (slots : SlotsView) (r : Readers)
+    → seed < 2 ^ 60 → es' ≡ es ++ e ∷ [] → size ≡ journal_size seed es + length (entry_line e) → size ≤ max_journal
+    → IsHeld (after (state_of (journal seed es)) e) t r → slots ≡ record t.slots { shown = map shown_of t.slots.slots }
+    → IsRun (journal seed es') spent size (record t { slots = slots }) r
+run-more seed es es' e spent size t slots r fits longer grown limit h shows =
+    let s = after (state_of (journal seed es)) e in
+    let next : s ≡ state_of (journal seed es') =
+    sym (state-last (journal seed es) e) ∙ ap (λ (fs : List Entry). state_of (journal seed fs)) (sym longer) in
     record {
-      seed = subst (λ m. m < 2 ^ 60) (sym h.seeded) fits;
-      serial_from_one = h.from_one;
-      serial = omega (arith, h.serials);
-      calls = omega (arith, h.calls);
-      requests = omega (arith, h.requests);
-      rests = λ w. ap begins_with_frame (stream_of-rests s.streams w) ∙ no_frame-rest_of (stream_of s.streams w);
+      seed_fits = fits;
+      size_is = grown ∙ sym (size-more seed es e) ∙ ap (journal_size seed) (sym longer);
+      within_limit = limit;
+      notes_are = h.kept.notes ∙ ap (λ (x : State). x.notes) next;
+      slots_show = ap (λ (x : SlotsView). x.shown) shows ∙ ap (map shown_of) h.kept.slots ∙ ap (λ (x : State). map shown_of x.slots) next;
+      held = λ u.
+          subst (λ (x : State). IsHeld x (record t { slots = slots }) r) next
+          (record { sound = h.sound; kept = shown-kept s t slots (ap (λ (x : SlotsView). x.slots) shows) h.kept; read = h.read });
     }
 
--- ---- what is not built
+-- ---- room for what an entry draws
 
-pub is_unbuilt-kept : (s : State) (e : Entry) → is_unbuilt (kept s) e ≡ is_unbuilt s e
-is_unbuilt-kept s (entry.Call lane o) = refl
-is_unbuilt-kept s (entry.Spawned w up) = refl
-is_unbuilt-kept s (entry.Chunk w bytes) =
-    ap (λ b. is_up s w && b) (ap (λ stream. is_broken (stream ++ bytes)) (stream_of-rests s.streams w) ∙ sym (is_broken-append (stream_of s.streams w) bytes))
+pub run-room : (j : Journal) (spent : Bool) (size : ℕ) (t : Tables) (r : Readers) → HasDrawn (journal_size j.seed j.entries) (state_of j) → spent ≡ false → IsRun j spent size t r → HasRoom t
+run-room j spent size t r drawn unspent run =
+    let s = state_of j in
+    let k = (run.held unspent).kept in
+    let few : journal_size j.seed j.entries ≤ max_journal = omega (arith, run.size_is, run.within_limit) in
+    record {
+      serial = record {
+        seed = omega (arith, k.seed, seed-of j, run.seed_fits);
+        from_one = omega (arith, k.next, drawn.from_one);
+        next = omega (arith, k.next, drawn.serials, few);
+      };
+      names = λ name. omega (arith, k.being_made name, count_by-le-length (is_to_make name) s.requests, drawn.requests, few);
+      calls = λ lane. omega (arith, k.calls lane, count_by-le-length (λ (c : Entered). c.key.lane == lane) s.calls, drawn.calls, few);
+    }
 
--- ---- what is sent
+-- ---- what is built
 
-pub sent_of-append : (xs ys : List Note) (w : WorkerKey) → sent_of (xs ++ ys) w ≡ sent_of xs w ++ sent_of ys w
-sent_of-append [] ys w = refl
-sent_of-append (x ∷ xs) ys w = ap (λ b. payload_to w x ++ b) (sent_of-append xs ys w) ∙ sym (append_assoc (payload_to w x) (sent_of xs w) (sent_of ys w))
+module _ (cut : (first later : List ℕ) → is_broken (first ++ later) ≡ is_broken (rest_of first ++ later)) where
+  unbuilt-chunk : (worker : WorkerKey) (bytes : List ℕ) (s : State) (t : Tables) (r : Readers) → IsHeld s t r
+      → (is_up t.slots.slots worker && is_broken (unread_of r worker ++ bytes)) ≡ is_unbuilt s (entry.Chunk worker bytes)
+  unbuilt-chunk worker bytes s t r h =
+      ap (λ (xs : List Slot). is_up xs worker && is_broken (unread_of r worker ++ bytes)) h.kept.slots
+      ∙ ap (λ b. is_up s.slots worker && b) (ap (λ (l : List ℕ). is_broken (l ++ bytes)) (h.read worker) ∙ sym (cut (stream_of s.streams worker) bytes))
+
+  pub built-whole : (e : Entry) (s : State) (t : Tables) (r : Readers) → IsHeld s t r → is_unbuilt s e ≡ false → BreaksNone t r e
+  built-whole (entry.Call lane o) s t r h built = tt
+  built-whole (entry.Spawned worker up) s t r h built = tt
+  built-whole (entry.Chunk worker bytes) s t r h built = unbuilt-chunk worker bytes s t r h ∙ built
+
+-- ---- what an entry adds
+
+-- a result that is no error
+pub goes-on : {T E : Type 0} (P : Type 0) (r : Result T E) (b : Bool) → b ≡ is_err r → b ≡ false → OnOk r P → P
+goes-on P (Ok x) b e f p = p
+goes-on P (Err x) b e f p = absurd (no (sym e ∙ f))
+  where
+    no : true ≡ false → ⊥
+    no h = cc
+
+pub lines-more : (r : Result Applied ApplyFault) (old now : HostView) (e : Entry) → OnOk r (now ≡ record old { journal = with_entry old.journal e })
+    → IfOk r (λ at. at.first_note ≡ length (notes_of old.journal))
+    → IfOk r (λ at. transcript_of now.journal ≡ transcript_of old.journal ++ flat_map note_line (drop at.first_note (notes_of now.journal)))
+lines-more (Ok at) old now e is first =
+    let before = transcript_of old.journal in
+    ap (λ (h : HostView). transcript_of h.journal) is ∙ lines-last old.journal e
+    ∙ ap (λ n. before ++ flat_map note_line (drop n (notes_of (with_entry old.journal e)))) (sym first)
+    ∙ ap (λ (h : HostView). before ++ flat_map note_line (drop at.first_note (notes_of h.journal))) (sym is)
+lines-more (Err f) old now e is first = tt

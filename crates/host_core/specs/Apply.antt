@@ -1,20 +1,39 @@
 -- What stands in the way of an entry. This project's own.
-use Rattle.std.specs.Prelude.{ℕ, ◌+◌, length, min, nat_lt, if◌then◌else◌, Option, Some, None}
+use Rattle.std.specs.Prelude.{ℕ, ◌+◌, ◌++◌, length, min, nat_lt, Bool, not, ◌&&◌, ◌==◌, if◌then◌else◌, Option, Some, None, List, codes, bytes_eq}
 use Rattle.ms_base.specs.declared.applied.ApplyFault.{ApplyFault}
 use Rattle.ms_base.specs.declared.applied.ApplyFault.TheVariants as fault
 use Rattle.ms_base.specs.declared.entry.Entry.{Entry}
-use Rattle.host_core.specs.JournalText.{entry_line, journal_size, max_journal, max_told}
-use Rattle.host_core.specs.Run.{Journal, state_of}
-use Rattle.host_core.specs.Step.{is_unbuilt}
+use Rattle.ms_base.specs.declared.entry.Entry.TheVariants as entry
+use Rattle.ms_base.specs.declared.entry.Op.{Op}
+use Rattle.ms_base.specs.declared.entry.Op.TheVariants as op
+use Rattle.channel_frames.specs.Frames.{is_broken}
+use Rattle.journal_text.specs.Written.{entry_line, journal_size, max_journal, max_told}
+use Rattle.host_core.specs.State.{State, is_up, is_wanted, stream_of}
+use Rattle.host_core.specs.Run.{Journal, HostView, state_of}
 
 -- the size that the journal would have with this entry
 abbrev pub size_with : Journal → Entry → ℕ
 size_with j e = journal_size j.seed j.entries + length (entry_line e)
 
--- a host that has met want of memory meets it again; then the journal's limit counts, and then what is built
-abbrev pub fault_of : Journal → Entry → Option ApplyFault
-fault_of j e =
-    if j.spent then Some fault.NoMemory
-    else if nat_lt max_journal (size_with j e) then Some (fault.Full (min (size_with j e) max_told))
-    else if is_unbuilt (state_of j.seed j.entries) e then Some fault.Unbuilt
+-- ---- what is not built yet
+
+abbrev pub built_options : List ℕ
+built_options = codes "{\"mediaCodecs\":[]}"
+
+abbrev pub is_unbuilt_op : Op → Bool
+is_unbuilt_op (op.Worker name budget) = not (budget == 0)
+is_unbuilt_op (op.Router name worker options) = not (bytes_eq options built_options)
+
+-- a budget that isn't 0, other options, a failed start, and a chunk that breaks its stream
+abbrev pub is_unbuilt : State → Entry → Bool
+is_unbuilt s (entry.Call lane op) = is_unbuilt_op op
+is_unbuilt s (entry.Spawned worker up) = not up && is_wanted s.slots worker
+is_unbuilt s (entry.Chunk worker bytes) = is_up s.slots worker && is_broken (stream_of s.streams worker ++ bytes)
+
+-- a host that has run out of memory answers that again; then the journal's limit counts, and then what is built
+abbrev pub fault_of : HostView → Entry → Option ApplyFault
+fault_of h e =
+    if h.spent then Some fault.NoMemory
+    else if nat_lt max_journal (size_with h.journal e) then Some (fault.Full (min (size_with h.journal e) max_told))
+    else if is_unbuilt (state_of h.journal) e then Some fault.Unbuilt
     else None

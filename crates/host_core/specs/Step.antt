@@ -1,135 +1,158 @@
--- One step of the host. An entry is cut into micro steps, of which a chunk has one for each of its messages.
--- This project's own.
-use Rattle.std.specs.Prelude.{ℕ, List, [], ◌∷◌, ◌++◌, map, Bool, not, ◌&&◌, ◌||◌, ◌==◌, if◌then◌else◌, Option, Some, None, codes, bytes_eq}
+-- One micro step of the host, as a function from what it knew to what it knows. This project's own.
+use Rattle.std.specs.Prelude.{ℕ, ◌+◌, List, [], ◌∷◌, ◌++◌, length, Bool, false, not, ◌&&◌, if◌then◌else◌, Option, Some, None, codes, bytes_eq}
+use Rattle.ms_base.specs.declared.keys.CallKey.{CallKey}
+use Rattle.ms_base.specs.declared.keys.Serial.{Serial}
 use Rattle.ms_base.specs.declared.keys.WorkerKey.{WorkerKey}
-use Rattle.ms_base.specs.declared.entry.Entry.{Entry}
-use Rattle.ms_base.specs.declared.entry.Entry.TheVariants as entry
 use Rattle.ms_base.specs.declared.entry.Op.{Op}
-use Rattle.ms_base.specs.declared.entry.Op.TheVariants as op
 use Rattle.ms_base.specs.declared.outcome.Outcome.{Outcome}
 use Rattle.ms_base.specs.declared.outcome.Outcome.TheVariants as outcome
-use Rattle.host_core.specs.Frames.{new_frames, is_broken}
-use Rattle.host_core.specs.Message.{message_of}
-use Rattle.host_core.specs.State.{State, same_worker, slot_of, is_up, is_wanted, pending, settled, stream_of, with_stream}
-use Rattle.host_core.specs.Call.{opened, called}
-use Rattle.host_core.specs.declared.message.Message.{Message}
-use Rattle.host_core.specs.declared.message.Message.TheVariants as message
-use Rattle.host_core.specs.declared.note.Note.{Note}
-use Rattle.host_core.specs.declared.note.Note.TheVariants as note
-use Rattle.host_core.specs.declared.requests.Request.{Request}
-use Rattle.host_core.specs.declared.slots.Slot.{Slot}
+use Rattle.channel_msgs.specs.View.{MessageView, reply, notice, log, rtp, AnswerView, accepted, refused, NoticeView}
+use Rattle.transcript.specs.declared.note.Note.{Note}
+use Rattle.transcript.specs.declared.note.Note.TheVariants as note
+use Rattle.host_core.specs.State.{State, Object, Owner, Call, Request, Slot, Wanted, Stream, next_call, as_serial, with_object, with_running, is_running, pending, settled, up_slot, with_up, with_call_settled, stream_of, with_stream}
+use Rattle.host_core.specs.Answer.{known, Answer, Refuses, AddsWorker, Issues, answer, makes, new_worker}
 
--- what the host may hear in one step
+-- What the host may hear in one step.
 pub data Micro : Type 0 where
   -- a lane makes a call
   Calls : (lane : ℕ) → (op : Op) → Micro
   -- a wanted worker was started
-  Starts : (worker : WorkerKey) → Micro
-  -- a worker that is up says something
-  Says : (worker : WorkerKey) → (said : Message) → Micro
+  Starting : (worker : WorkerKey) → Micro
+  -- bytes come by the channel of a worker
+  Comes : (worker : WorkerKey) → (bytes : List ℕ) → Micro
+  -- a worker says something; none is a payload that no form of a message reads
+  Says : (worker : WorkerKey) → (said : Option MessageView) → Micro
+  -- a length over the limit stands in a frame's place
+  Breaks : (worker : WorkerKey) → Micro
 
--- ---- a start
+-- ---- notes
 
-abbrev pub up_if : WorkerKey → Slot → Slot
-up_if worker x = record x { up = x.up || same_worker x.worker worker }
+abbrev pub noted : Note → State → State
+noted n s = record s { notes = s.notes ++ n ∷ [] }
 
-abbrev pub with_up : List Slot → WorkerKey → List Slot
-with_up slots worker = map (up_if worker) slots
+-- a call has come to its outcome
+abbrev pub call_settled : CallKey → Outcome → State → State
+call_settled call outcome s = noted (note.Settled call outcome) s
 
-abbrev pub started : State → WorkerKey → State × List Note
-started s worker = (
-  record s { slots = with_up s.slots worker; streams = s.streams ++ record { worker = worker; bytes = [] } ∷ [] },
-  note.Up worker ∷ [],
-)
+abbrev pub opened : Object → Note
+opened o = note.Open o.serial o.kind o.name o.id
 
--- ---- a response settles the request of its own id on its own channel
+-- an object stands in the tree
+abbrev pub object_added : Object → State → State
+object_added o s = noted (opened o) (record s { objects = with_object o s.objects })
 
-abbrev pub accepted_response : State → WorkerKey → ℕ → Option Request → State × List Note
-accepted_response s worker id None = (s, note.Late worker id ∷ [])
-accepted_response s worker id (Some r) = (
-  record s { requests = settled s.requests worker id; objects = s.objects ++ r.makes ∷ [] },
-  opened r.makes ∷ note.Settled r.call outcome.Done ∷ [],
-)
+-- ---- a call
 
-abbrev pub refused_response : State → WorkerKey → ℕ → Outcome → Option Request → State × List Note
-refused_response s worker id refusal None = (s, note.Late worker id ∷ [])
-refused_response s worker id refusal (Some r) = (record s { requests = settled s.requests worker id }, note.Settled r.call refusal ∷ [])
+-- it counts in its lane, refused or not
+abbrev pub call_entered : CallKey → Op → State → State
+call_entered call op s = record s { calls = s.calls ++ record { key = call; makes = makes op } ∷ [] }
+
+-- the next serial is drawn, if there is an object to be made
+abbrev pub serials_drawn : Option Object → ℕ
+serials_drawn None = 0
+serials_drawn (Some o) = 1
+
+-- the first worker of a new slot
+abbrev pub first_worker : List Slot → WorkerKey
+first_worker slots = record { slot = length slots + 1; generation = 1 }
+
+abbrev pub new_slot : State → CallKey → List ℕ → ℕ → Slot
+new_slot s call name budget =
+    record { key = first_worker s.slots; name = name; budget = budget; used = 0; phase = Wanted; worker = as_serial s.next; call = Some call }
+
+-- a Worker stands in the tree from its call on, and its start is wanted
+abbrev pub worker_wanted : CallKey → List ℕ → ℕ → State → State
+worker_wanted call name budget s =
+    let worker = new_worker (known s) name in
+    let slot = new_slot s call name budget in
+    noted (note.Spawn slot.key) (object_added worker (record s { slots = s.slots ++ slot ∷ []; next = s.next + 1 }))
+
+abbrev pub new_request : Owner → Serial → Option Object → WorkerKey → ℕ → Request
+new_request owner under makes channel id =
+    record { channel = channel; id = id; owner = owner; under = under; makes = makes; settled = false }
+
+-- a request goes to a worker
+abbrev pub request_issued : Request → List ℕ → State → State
+request_issued r payload s =
+    noted (note.Sent r.channel payload) (record s { requests = s.requests ++ r ∷ []; next = s.next + serials_drawn r.makes })
+
+abbrev pub answered : CallKey → Answer → State → State
+answered call (Refuses outcome) s = call_settled call outcome s
+answered call (AddsWorker name budget) s = worker_wanted call name budget s
+answered call (Issues under makes channel id payload) s = request_issued (new_request (Call call) under makes channel id) payload s
+
+abbrev pub called : ℕ → Op → State → State
+called lane op s = let call = next_call s.calls lane in answered call (answer (known s) op) (call_entered call op s)
+
+-- ---- a start, and bytes of a channel
+
+abbrev pub started : WorkerKey → State → State
+started worker s = noted (note.Up worker) (record s { slots = with_up worker s.slots })
+
+abbrev pub bytes_joined : WorkerKey → List ℕ → State → State
+bytes_joined worker bytes s = record s { streams = with_stream s.streams worker (stream_of s.streams worker ++ bytes) }
+
+-- ---- a reply settles the request of its own id on its own channel
+
+abbrev pub owner_settled : Owner → Outcome → State → State
+owner_settled (Call key) outcome s = call_settled key outcome s
+
+abbrev pub made : Option Object → State → State
+made None s = s
+made (Some o) s = object_added o s
+
+abbrev pub settled_by : AnswerView → Request → State → State
+settled_by (accepted content) r s = owner_settled r.owner outcome.Done (made r.makes s)
+settled_by (refused error reason) r s = owner_settled r.owner (outcome.Worker error reason) s
+
+abbrev pub replied_to : Option Request → WorkerKey → ℕ → AnswerView → State → State
+replied_to None worker id answer s = noted (note.Late worker id) s
+replied_to (Some r) worker id answer s = settled_by answer r (record s { requests = settled worker id s.requests })
+
+abbrev pub replied : WorkerKey → ℕ → AnswerView → State → State
+replied worker id answer s = replied_to (pending s.requests worker id) worker id answer s
 
 -- ---- a notice: the first `running` for the target `worker` sets the Worker running, and settles its call
 
-abbrev pub running_if : WorkerKey → Slot → Slot
-running_if worker x = record x { running = x.running || same_worker x.worker worker }
+abbrev pub waiting_call_settled : Option CallKey → State → State
+waiting_call_settled None s = s
+waiting_call_settled (Some call) s = call_settled call outcome.Done s
 
-abbrev pub with_running : List Slot → WorkerKey → List Slot
-with_running slots worker = map (running_if worker) slots
+abbrev pub ran : Slot → State → State
+ran x s =
+    waiting_call_settled x.call (noted (note.Running x.name x.key.generation)
+    (record s { objects = with_running x.worker s.objects; slots = with_call_settled x.key s.slots }))
 
-abbrev pub says_running : List ℕ → List ℕ → Bool
-says_running target event = bytes_eq target (codes "worker") && bytes_eq event (codes "running")
+abbrev pub says_running : NoticeView → Bool
+says_running n = bytes_eq n.target (codes "worker") && bytes_eq n.event (codes "running")
 
-abbrev pub running_in : State → WorkerKey → Option Slot → State × List Note
-running_in s worker None = (s, note.Stray worker ∷ [])
-running_in s worker (Some x) =
-    if x.running then (s, note.Stray worker ∷ [])
-    else (
-      record s { slots = with_running s.slots worker },
-      note.Running x.name worker.generation ∷ note.Settled x.call outcome.Done ∷ [],
-    )
+abbrev pub noticed : Slot → NoticeView → State → State
+noticed x n s = if says_running n && not (is_running s.objects x.worker) then ran x s else noted (note.Stray x.key) s
 
-abbrev pub noticed : State → WorkerKey → List ℕ → List ℕ → State × List Note
-noticed s worker target event =
-    if says_running target event then running_in s worker (slot_of s.slots worker) else (s, note.Stray worker ∷ [])
+-- ---- what a worker says, which has the slot
 
--- ---- a message of a worker that is up
+abbrev pub heard : Slot → Option MessageView → State → State
+heard x None s = noted (note.Unexpected x.key) s
+heard x (Some (reply r)) s = replied x.key r.id r.answer s
+heard x (Some (notice n)) s = noticed x n s
+heard x (Some (log level text)) s = noted (note.Log x.key level text) s
+heard x (Some (rtp id packet)) s = noted (note.Stray x.key) s
 
-abbrev pub heard : State → WorkerKey → Message → State × List Note
-heard s worker (message.Accepted id) = accepted_response s worker id (pending s.requests worker id)
-heard s worker (message.Refused id error reason) = refused_response s worker id (outcome.Worker error reason) (pending s.requests worker id)
-heard s worker (message.Notice target event) = noticed s worker target event
-heard s worker (message.Packet id bytes) = (s, note.Stray worker ∷ [])
-heard s worker (message.Log level text) = (s, note.Log worker level text ∷ [])
-heard s worker message.Unexpected = (s, note.Unexpected worker ∷ [])
+-- a worker that isn't up says nothing
+abbrev pub heard_by : Option Slot → Option MessageView → State → State
+heard_by None said s = s
+heard_by (Some x) said s = heard x said s
 
 -- ---- one micro step, and several
 
-abbrev pub step : State → Micro → State × List Note
-step s (Calls lane op) = called s lane op
-step s (Starts worker) = started s worker
-step s (Says worker said) = heard s worker said
+-- A break ends nothing yet: no journal with one is built.
+abbrev pub step : State → Micro → State
+step s (Calls lane op) = called lane op s
+step s (Starting worker) = started worker s
+step s (Comes worker bytes) = bytes_joined worker bytes s
+step s (Says worker said) = heard_by (up_slot s.slots worker) said s
+step s (Breaks worker) = s
 
-abbrev pub steps : State → List Micro → State × List Note
-steps s [] = (s, [])
-steps s (m ∷ ms) = let first = step s m in let others = steps first.0 ms in (others.0, first.1 ++ others.1)
-
--- ---- one entry
-
--- the micro steps of an entry: none where it doesn't fit
-abbrev pub micro_steps : State → Entry → List Micro
-micro_steps s (entry.Call lane op) = Calls lane op ∷ []
-micro_steps s (entry.Spawned worker up) = if up && is_wanted s worker then Starts worker ∷ [] else []
-micro_steps s (entry.Chunk worker bytes) =
-    if is_up s worker then map (λ payload. Says worker (message_of payload)) (new_frames (stream_of s.streams worker) bytes) else []
-
--- the bytes of a chunk join the stream of a worker that is up
-abbrev pub with_bytes : State → Entry → State
-with_bytes s (entry.Call lane op) = s
-with_bytes s (entry.Spawned worker up) = s
-with_bytes s (entry.Chunk worker bytes) =
-    if is_up s worker then record s { streams = with_stream s.streams worker (stream_of s.streams worker ++ bytes) } else s
-
-abbrev pub entry_step : State → Entry → State × List Note
-entry_step s e = steps (with_bytes s e) (micro_steps s e)
-
--- ---- what is not built yet
-
-abbrev pub built_options : List ℕ
-built_options = codes "{\"mediaCodecs\":[]}"
-
-abbrev pub is_unbuilt_op : Op → Bool
-is_unbuilt_op (op.Worker name budget) = not (budget == 0)
-is_unbuilt_op (op.Router name worker options) = not (bytes_eq options built_options)
-
--- a budget that isn't 0, other options, a failed start, and a chunk that breaks its stream
-abbrev pub is_unbuilt : State → Entry → Bool
-is_unbuilt s (entry.Call lane op) = is_unbuilt_op op
-is_unbuilt s (entry.Spawned worker up) = not up && is_wanted s worker
-is_unbuilt s (entry.Chunk worker bytes) = is_up s worker && is_broken (stream_of s.streams worker ++ bytes)
+abbrev pub steps : State → List Micro → State
+steps s [] = s
+steps s (m ∷ ms) = steps (step s m) ms

@@ -1,62 +1,46 @@
-ghost use Rattle.std.specs.Prelude.{◌≡◌, ℕ, ◌+◌, ◌^◌, ◌<◌, List, [], ◌∷◌, ◌++◌, length, OnOk, OnErr};
-ghost use Rattle.host_core.specs.State.{next_call};
+ghost use Rattle.std.specs.Prelude.{◌≡◌, ℕ, ◌+◌, ◌==◌, ◌^◌, ◌<◌, OnOk, OnErr, if◌then◌else◌};
+ghost use Rattle.host_core.specs.LookUps.{counted};
+ghost use Rattle.host_core.specs.State.{call_key};
 
 use ms_base::{CallKey, NoMemory};
 use std::alloc::Global;
 use std::collections::BTreeMap;
-use std::marker::Model;
 
-/// The calls, in order.
+/// How many calls each lane has made.
 #[derive(Debug, Drop)]
 pub(crate) struct Calls {
-    items: Vec<CallKey>,
-    /// How many calls each lane has made.
-    counts: BTreeMap<u32, usize>,
-}
-
-impl Model for Calls {
-    ghost use Rattle.std.specs.Prelude.{◌≡◌, ◌==◌, ℕ, List, count_by, unwrap_or};
-    ghost use Rattle.std.specs.BTreeMap.{get};
-    ghost use Rattle.std.specs.Ordering.{nat_cmp};
-    ghost use Rattle.ms_base.specs.declared.keys.CallKey.{CallKey};
-
-    ghost Value = { List CallKey };
-
-    ghost view = { λ c. c.items.items };
-
-    ghost invariant = { λ c. (lane : ℕ) → unwrap_or (get nat_cmp c.counts lane) 0 ≡ count_by (λ call. call.lane == lane) c.items.items };
+    counts: BTreeMap<u32, u32>,
 }
 
 impl Calls {
     pub(crate) fn new(alloc: Global) -> Calls
-        ensures { result ≡ [] }
+        ensures { (lane : ℕ) → counted result lane ≡ 0 }
     {
         Calls {
-            items: Vec::new(alloc),
             counts: BTreeMap::new(alloc),
         }
     }
 
     /// The key of a lane's next call.
     pub(crate) fn next(&self, lane: u32) -> CallKey
-        requires { length self.now + 1 < 2 ^ 32 }
-        ensures { result ≡ next_call self.now lane }
+        requires { counted self.now lane + 1 < 2 ^ 32 }
+        ensures { result ≡ call_key lane (counted self.now lane) }
     {
         let before = self.counts.get(&lane).copied().unwrap_or(0);
         CallKey {
             lane,
-            place: before as u32 + 1,
+            place: before + 1,
         }
     }
 
-    /// Adds a call behind the others.
-    pub(crate) fn add(&mut self, call: CallKey) -> Result<(), NoMemory>
-        ensures ok { OnOk result (self.new ≡ self.old ++ call ∷ []) }
-        ensures err { OnErr result (self.new ≡ self.old) }
+    /// Counts one call more of a lane.
+    pub(crate) fn add(&mut self, lane: u32) -> Result<(), NoMemory>
+        requires { counted self.old lane + 1 < 2 ^ 32 }
+        ensures ok { OnOk result ((l : ℕ) → counted self.new l ≡ (if lane == l then counted self.old l + 1 else counted self.old l)) }
+        ensures err { OnErr result ((l : ℕ) → counted self.new l ≡ counted self.old l) }
     {
-        self.items.reserve(1)?;
-        *self.counts.entry(call.lane)?.or_insert(0) += 1;
-        self.items.push_reserved(call);
+        let before = self.counts.get(&lane).copied().unwrap_or(0);
+        self.counts.insert(lane, before + 1)?;
         Ok(())
     }
 }

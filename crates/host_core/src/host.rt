@@ -1,54 +1,56 @@
-ghost use Rattle.std.specs.Prelude.{◌≡◌, ◌≢◌, ◌+◌, ◌^◌, ◌<◌, ◌≤◌, [], ◌∷◌, ◌++◌, length, true, false, Err, None, OnOk, OnErr, IfOk, IfSome, IfErr, IsOkUnless, map, min};
+ghost use Rattle.std.specs.Prelude.{◌≡◌, ◌≢◌, ◌&&◌, ◌+◌, ◌^◌, ◌<◌, ◌≤◌, List, [], ◌∷◌, ◌++◌, length, map, drop, flat_map, true, false, Err, None, OnOk, OnErr, IfOk, IfSome, IfErr, IsOkUnless, min};
+ghost use Rattle.ms_base.specs.declared.entry.Entry.TheVariants as entry;
 ghost use Rattle.ms_base.specs.declared.keys.WorkerKey.{WorkerKey};
+ghost use Rattle.channel_frames.specs.Frames.{frames, rest_of, is_broken};
+ghost use Rattle.channel_msgs.specs.Read.{message_of};
+ghost use Rattle.journal_text.specs.Written.{journal_size, max_journal, max_told};
+ghost use Rattle.transcript.specs.Lines.{note_line};
 ghost use Rattle.host_core.specs.Apply.{fault_of, size_with};
-ghost use Rattle.host_core.specs.JournalText.{journal_size, max_journal, max_told};
-ghost use Rattle.host_core.specs.Kept.{HasRoom, Goes, IsCutOff, kept_step, kept_start, kept_chunk, look_shown};
-ghost use Rattle.host_core.specs.Run.{state_of, notes_of, sent_of, verdict_in, slot_look};
-ghost use Rattle.host_core.specs.State.{stream_of};
+ghost use Rattle.host_core.specs.Tables.{BreaksNone, HasRoom, Goes, Moves, IsHeld, ShowsTheSame};
+ghost use Rattle.host_core.specs.LookUps.{unread_of};
+ghost use Rattle.host_core.specs.Run.{with_entry, after, state_of, notes_of, transcript_of, sent_of, verdict_in, slot_look, look_at};
+ghost use Rattle.host_core.specs.State.{State, is_up, same_worker};
 ghost use Rattle.host_core.specs.Step.{Says, steps};
 
-use crate::journal_text::{entry_size, head_size};
-use crate::message::Message;
-use crate::note::Note;
-use crate::notes::Notes;
-use crate::streams::Streams;
+use crate::laws::draws_are_bounded;
+use crate::readers::Readers;
+use crate::slots::{Phase, Shown};
 use crate::tables::Tables;
-use ms_base::{Applied, ApplyFault, CallKey, Entry, NoMemory, SlotLook, Verdict, WorkerKey};
+use channel_frames::{FrameFault, frames_of_a_cut_stream};
+use journal_text::{MAX_JOURNAL, entry_size, head_size};
+use ms_base::{Applied, ApplyFault, CallKey, Entry, NoMemory, Op, SlotLook, Verdict, WorkerKey};
 use std::alloc::Global;
 use std::marker::Model;
+use transcript::Note;
 
-/// How many bytes the text of a journal may have.
-pub const MAX_JOURNAL: u64 = 268_435_456;
-
-/// A host: what it has heard, and what has followed. Contracts see its seed, its journal, and whether it has met
-/// want of memory; all that it shows is a function of these.
-#[derive(Debug, Drop)]
+/// A host: what it has heard, and what has followed. Contracts see its journal, and whether it has run out of
+/// memory; all that it shows is a function of its journal.
+#[derive(Drop)]
 pub struct Host {
     seed: u64,
     spent: bool,
     journal: Vec<Entry>,
     size: u64,
     tables: Tables,
-    sent: Streams,
-    notes: Notes,
+    readers: Readers,
 }
 
 impl Model for Host {
-    ghost use Rattle.host_core.specs.Run.{Journal};
-    ghost use Rattle.host_core.specs.Kept.{IsRun};
+    ghost use Rattle.host_core.specs.Run.{HostView};
+    ghost use Rattle.host_core.specs.Tables.{IsRun};
 
-    ghost Value = { Journal };
+    ghost Value = { HostView };
 
-    ghost view = { λ h. record { seed = h.seed; entries = h.journal.items; spent = h.spent } };
+    ghost view = { λ h. record { journal = record { seed = h.seed; entries = h.journal.items }; spent = h.spent } };
 
-    ghost invariant = { λ h. IsRun h.seed h.journal.items h.spent h.size h.tables h.sent h.notes };
+    ghost invariant = { λ h. IsRun (record { seed = h.seed; entries = h.journal.items }) h.spent h.size h.tables h.readers };
 }
 
 impl Host {
     /// A host that has heard nothing. Its ids are made of the seed, which is below 2^60.
     pub fn new(alloc: Global, seed: u64) -> Result<Host, NoMemory>
         requires { seed < 2 ^ 60 }
-        ensures { IfOk result (λ host. host ≡ record { seed = seed; entries = []; spent = false }) }
+        ensures { IfOk result (λ host. host ≡ record { journal = record { seed = seed; entries = [] }; spent = false }) }
     {
         Ok(Host {
             seed,
@@ -56,8 +58,7 @@ impl Host {
             journal: Vec::new(alloc),
             size: head_size(seed),
             tables: Tables::new(alloc, seed),
-            sent: Streams::new(alloc),
-            notes: Notes::new(alloc),
+            readers: Readers::new(alloc),
         })
     }
 
@@ -65,14 +66,15 @@ impl Host {
     /// alone; what it shows is as it was then too.
     pub fn apply(&mut self, entry: Entry) -> Result<Applied, ApplyFault>
         // The journal has this entry behind it.
-        ensures ok { OnOk result (self.new ≡ record self.old { entries = self.old.entries ++ entry ∷ [] }) }
+        ensures ok { OnOk result (self.new ≡ record self.old { journal = with_entry self.old.journal entry }) }
 
-        // Where the entry and its notes stand.
-        ensures entry { IfOk result (λ at. at.entry ≡ length self.old.entries) }
-        ensures first_note { IfOk result (λ at. at.first_note ≡ length (notes_of self.old.seed self.old.entries)) }
-        ensures end_note { IfOk result (λ at. at.end_note ≡ length (notes_of self.old.seed (self.old.entries ++ entry ∷ []))) }
+        // Where the entry and its notes stand, and what they add to the transcript.
+        ensures entry { IfOk result (λ at. at.entry ≡ length self.old.journal.entries) }
+        ensures first_note { IfOk result (λ at. at.first_note ≡ length (notes_of self.old.journal)) }
+        ensures end_note { IfOk result (λ at. at.end_note ≡ length (notes_of (with_entry self.old.journal entry))) }
+        ensures transcript { IfOk result (λ at. transcript_of self.new.journal ≡ transcript_of self.old.journal ++ flat_map note_line (drop at.first_note (notes_of self.new.journal))) }
 
-        // Which fault comes, and when. Want of memory alone is free.
+        // Which fault comes, and when. Running out of memory alone is free.
         ensures fault { IfSome (fault_of self.old entry) (λ fault. result ≡ Err fault) }
         ensures no_other { fault_of self.old entry ≡ None → IsOkUnless result ApplyFault.NoMemory }
 
@@ -89,7 +91,7 @@ impl Host {
 
     // What stands in the way of an entry, with which the journal would have so many bytes.
     fn fault(&self, entry: &Entry, size: u64) -> Option<ApplyFault>
-        requires { size ≡ min (size_with self.now entry.now) max_told }
+        requires { size ≡ min (size_with self.now.journal entry.now) max_told }
         ensures { result ≡ fault_of self.now entry.now }
     {
         if self.spent {
@@ -98,61 +100,81 @@ impl Host {
         if size > MAX_JOURNAL {
             return Some(ApplyFault::Full { bytes: size });
         }
-        if self.tables.is_unbuilt(entry) {
+        if self.is_unbuilt(entry) {
             return Some(ApplyFault::Unbuilt);
         }
         None
     }
 
+    // Whether an entry is of a kind that is not built yet.
+    fn is_unbuilt(&self, entry: &Entry) -> bool
+        requires { self.now.spent ≡ false }
+        ensures { result ≡ Rattle.host_core.specs.Apply.is_unbuilt (state_of self.now.journal) entry.now }
+    {
+        frames_of_a_cut_stream();
+        match entry {
+            Entry::Call { op, .. } => is_unbuilt_op(op),
+            Entry::Spawned { worker, up } => !*up && self.tables.slots.is_wanted(*worker),
+            Entry::Chunk { worker, bytes } => {
+                self.tables.slots.is_up(*worker)
+                    && self.readers.breaks_with(*worker, bytes.as_slice())
+            }
+        }
+    }
+
     // Hears an entry for which there is room, and which is built.
     fn enter(&mut self, entry: Entry, size: u64) -> Result<Applied, ApplyFault>
         requires open { self.old.spent ≡ false }
-        requires size { size ≡ size_with self.old entry }
+        requires built { Rattle.host_core.specs.Apply.is_unbuilt (state_of self.old.journal) entry ≡ false }
+        requires size { size ≡ size_with self.old.journal entry }
         requires limit { size ≤ max_journal }
-        ensures ok { OnOk result (self.new ≡ record self.old { entries = self.old.entries ++ entry ∷ [] }) }
-        ensures entry { IfOk result (λ at. at.entry ≡ length self.old.entries) }
-        ensures first_note { IfOk result (λ at. at.first_note ≡ length (notes_of self.old.seed self.old.entries)) }
-        ensures end_note { IfOk result (λ at. at.end_note ≡ length (notes_of self.old.seed (self.old.entries ++ entry ∷ []))) }
+        ensures ok { OnOk result (self.new ≡ record self.old { journal = with_entry self.old.journal entry }) }
+        ensures entry { IfOk result (λ at. at.entry ≡ length self.old.journal.entries) }
+        ensures first_note { IfOk result (λ at. at.first_note ≡ length (notes_of self.old.journal)) }
+        ensures end_note { IfOk result (λ at. at.end_note ≡ length (notes_of (with_entry self.old.journal entry))) }
         ensures only { IsOkUnless result ApplyFault.NoMemory }
         ensures memory { result ≡ Err ApplyFault.NoMemory → self.new ≡ record self.old { spent = true } }
     {
+        draws_are_bounded();
+        frames_of_a_cut_stream();
+        let place = self.journal.len();
+        let first_note = self.tables.notes.len();
         if self.journal.reserve(1).is_err() {
             self.spent = true;
             return Err(ApplyFault::NoMemory);
         }
-        let first_note = self.notes.len();
-        if hear(&mut self.tables, &mut self.sent, &mut self.notes, &entry).is_err() {
-            self.notes.truncate(first_note);
+        if hear(&mut self.tables, &mut self.readers, &entry).is_err() {
+            self.tables.notes.truncate(first_note);
             self.spent = true;
             return Err(ApplyFault::NoMemory);
         }
-        let place = self.journal.len();
+        self.tables.slots.show();
         self.journal.push_reserved(entry);
         self.size = size;
         Ok(Applied {
             entry: place as u64,
             first_note: first_note as u64,
-            end_note: self.notes.len() as u64,
+            end_note: self.tables.notes.len() as u64,
         })
     }
 
     /// All notes so far, in order.
     pub fn notes(&self) -> &[Note]
-        ensures { result.now ≡ notes_of self.now.seed self.now.entries }
+        ensures { result.now ≡ notes_of self.now.journal }
     {
-        self.notes.as_slice()
+        self.tables.notes.as_slice()
     }
 
     /// The entries so far, in order.
     pub fn journal(&self) -> &[Entry]
-        ensures { result.now ≡ self.now.entries }
+        ensures { result.now ≡ self.now.journal.entries }
     {
         self.journal.as_slice()
     }
 
     /// The length in bytes of the journal's text, its first line included.
     pub fn size(&self) -> u64
-        ensures size { result ≡ journal_size self.now.seed self.now.entries }
+        ensures size { result ≡ journal_size self.now.journal.seed self.now.journal.entries }
         ensures limit { result ≤ max_journal }
     {
         self.size
@@ -160,113 +182,120 @@ impl Host {
 
     /// The bytes that go to a worker, from its start on: the frames of its requests.
     pub fn sent(&self, worker: WorkerKey) -> &[u8]
-        ensures { result.now ≡ sent_of (notes_of self.now.seed self.now.entries) worker }
+        ensures { result.now ≡ sent_of (notes_of self.now.journal) worker }
     {
-        self.sent.get(worker)
+        self.tables.notes.sent(worker)
     }
 
     /// What a call has come to, if it has settled.
     pub fn verdict(&self, key: CallKey) -> Option<Verdict>
-        ensures { result ≡ verdict_in (notes_of self.now.seed self.now.entries) key }
+        ensures { result ≡ verdict_in (notes_of self.now.journal) key }
     {
-        self.notes.verdict(key)
+        self.tables.notes.verdict(key)
     }
 
     /// The state of a slot, counted from 1.
     pub fn slot(&self, slot: u32) -> SlotLook
-        ensures { result ≡ slot_look (state_of self.now.seed self.now.entries) (notes_of self.now.seed self.now.entries) slot }
+        ensures { result ≡ slot_look (state_of self.now.journal) slot }
     {
         if slot == 0 {
             return SlotLook::Idle;
         }
-        match self.tables.shown_at(slot as usize - 1) {
+        match self.tables.slots.shown_at(slot as usize - 1) {
             None => SlotLook::Idle,
-            Some((worker, up)) => self.look_at(worker, up),
+            Some(shown) => self.look_at(shown),
         }
     }
 
-    // The state of a slot that has this worker, which was started or not.
-    fn look_at(&self, worker: WorkerKey, up: bool) -> SlotLook
-        ensures { result ≡ look_shown (notes_of self.now.seed self.now.entries) (worker, up) }
+    // The state of a slot of which this is shown.
+    fn look_at(&self, shown: Shown) -> SlotLook
+        ensures { result ≡ look_at (notes_of self.now.journal) shown.key (Rattle.host_core.specs.LookUps.phase_of shown.phase) }
     {
-        if up {
-            SlotLook::Live {
-                generation: worker.generation,
-                sent: self.sent(worker).len() as u64,
-            }
-        } else {
-            SlotLook::Want(worker.generation)
+        let generation = shown.key.generation;
+        match shown.phase {
+            Phase::Wanted => SlotLook::Want(generation),
+            Phase::Up => SlotLook::Live {
+                generation,
+                sent: self.sent(shown.key).len() as u64,
+            },
         }
     }
 }
 
-// Hears an entry: what is kept goes on, and what follows is noted and sent.
-fn hear(
-    tables: &mut Tables,
-    sent: &mut Streams,
-    notes: &mut Notes,
-    entry: &Entry,
-) -> Result<(), NoMemory>
-    requires { HasRoom tables.old }
-    ensures ok { OnOk result (Goes tables.new notes.old notes.new (kept_step tables.old entry.now)) }
-    ensures err { OnErr result (IsCutOff tables.old tables.new notes.old notes.new) }
-    ensures sent { OnOk result ((w : WorkerKey) → stream_of sent.new w ≡ stream_of sent.old w ++ sent_of (kept_step tables.old entry.now).1 w) }
-    ensures unsent { OnErr result (sent.new ≡ sent.old) }
+// Whether a call is of a kind that is not built yet.
+fn is_unbuilt_op(op: &Op) -> bool
+    ensures { result ≡ Rattle.host_core.specs.Apply.is_unbuilt_op op.now }
+{
+    match op {
+        Op::Worker { budget, .. } => *budget != 0,
+        Op::Router { options, .. } => options.as_str() != "{\"mediaCodecs\":[]}",
+    }
+}
+
+// Hears an entry that is built: the tables and the readers go on, and what follows is noted.
+fn hear(tables: &mut Tables, readers: &mut Readers, entry: &Entry) -> Result<(), NoMemory>
+    requires room { HasRoom tables.old }
+    requires whole { BreaksNone tables.old readers.old entry.now }
+    ensures ok { OnOk result ((s : State) → IsHeld s tables.old readers.old → IsHeld (after s entry.now) tables.new readers.new) }
+    ensures shown { ShowsTheSame tables.old tables.new }
 {
     match entry {
-        Entry::Call { lane, op } => tables.call(*lane, op, notes, sent),
-        Entry::Spawned { worker, up } => hear_start(tables, *worker, *up, notes),
-        Entry::Chunk { worker, bytes } => hear_chunk(tables, *worker, bytes.as_slice(), notes),
+        Entry::Call { lane, op } => tables.call(*lane, op),
+        Entry::Spawned { worker, up } => hear_start(tables, *worker, *up),
+        Entry::Chunk { worker, bytes } => hear_chunk(tables, readers, *worker, bytes.as_slice()),
     }
 }
 
 // A start of a worker has been tried.
-fn hear_start(
-    tables: &mut Tables,
-    worker: WorkerKey,
-    up: bool,
-    notes: &mut Notes,
-) -> Result<(), NoMemory>
-    ensures ok { OnOk result (Goes tables.new notes.old notes.new (kept_start tables.old worker up)) }
-    ensures err { OnErr result (IsCutOff tables.old tables.new notes.old notes.new) }
+fn hear_start(tables: &mut Tables, worker: WorkerKey, up: bool) -> Result<(), NoMemory>
+    ensures ok { OnOk result (Moves (λ s. after s (entry.Spawned worker up)) tables.old tables.new) }
+    ensures shown { ShowsTheSame tables.old tables.new }
 {
-    if up && tables.is_wanted(worker) {
-        tables.start(worker, notes)
+    if up && tables.slots.is_wanted(worker) {
+        tables.start(worker)
     } else {
         Ok(())
     }
 }
 
-// Bytes have come from a worker: its messages that are whole with them, one after another.
+// Bytes have come from a worker.
 fn hear_chunk(
     tables: &mut Tables,
+    readers: &mut Readers,
     worker: WorkerKey,
     bytes: &[u8],
-    notes: &mut Notes,
 ) -> Result<(), NoMemory>
-    requires { HasRoom tables.old }
-    ensures ok { OnOk result (Goes tables.new notes.old notes.new (kept_chunk tables.old worker bytes.now)) }
-    ensures err { OnErr result (IsCutOff tables.old tables.new notes.old notes.new) }
+    requires { (is_up tables.old.slots.slots worker && is_broken (unread_of readers.old worker ++ bytes.now)) ≡ false }
+    ensures ok { OnOk result ((s : State) → IsHeld s tables.old readers.old → IsHeld (after s (entry.Chunk worker bytes.now)) tables.new readers.new) }
+    ensures shown { ShowsTheSame tables.old tables.new }
 {
-    if !tables.is_up(worker) {
+    frames_of_a_cut_stream();
+    if !tables.slots.is_up(worker) {
         return Ok(());
     }
-    let messages = tables.take_in(worker, bytes)?;
-    hear_messages(tables, worker, messages, notes)
+    readers.feed(worker, bytes)?;
+    hear_payloads(tables, readers, worker)
 }
 
-// A worker that is up says these messages.
-fn hear_messages(
+// Hears the payloads of a worker that are whole, one after another.
+fn hear_payloads(
     tables: &mut Tables,
+    readers: &mut Readers,
     worker: WorkerKey,
-    messages: Vec<Message>,
-    notes: &mut Notes,
 ) -> Result<(), NoMemory>
-    ensures ok { OnOk result (Goes tables.new notes.old notes.new (steps tables.old (map (Says worker) messages.items))) }
-    ensures err { OnErr result (IsCutOff tables.old tables.new notes.old notes.new) }
+    requires { is_broken (unread_of readers.old worker) ≡ false }
+    ensures tables { OnOk result (Goes (λ s. steps s (map (λ payload. Says worker (message_of payload)) (frames (unread_of readers.old worker)))) tables.old tables.new) }
+    ensures rest { OnOk result (unread_of readers.new worker ≡ rest_of (unread_of readers.old worker)) }
+    ensures others { (w : WorkerKey) → same_worker worker w ≡ false → unread_of readers.new w ≡ unread_of readers.old w }
+    ensures shown { ShowsTheSame tables.old tables.new }
 {
-    for message in messages {
-        tables.hear(worker, message, notes)?;
+    loop {
+        match readers.next_payload(worker) {
+            Ok(Some(payload)) => tables.hear(worker, payload.as_slice())?,
+            Ok(None) => return Ok(()),
+            Err(FrameFault::NoMemory) => return Err(NoMemory),
+            // The stream doesn't break: no entry with a break is built.
+            Err(_) => unreachable!(),
+        }
     }
-    Ok(())
 }

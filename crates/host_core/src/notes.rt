@@ -1,13 +1,21 @@
-ghost use Rattle.std.specs.Prelude.{◌≡◌, List, [], ◌∷◌, ◌++◌, length, take, OnOk, OnErr};
+ghost use Rattle.std.specs.Prelude.{◌≡◌, ◌-◌, List, [], ◌∷◌, ◌++◌, length, take, OnOk, OnErr};
+ghost use Rattle.host_core.specs.LookUps.{IsShort};
+ghost use Rattle.host_core.specs.NoteIndexes.{AreIndexed, IsPlaceOf, place_of, verdict_at};
+ghost use Rattle.host_core.specs.Run.{settled_in, verdict_in, sent_of};
 ghost use Rattle.ms_base.specs.declared.keys.CallKey.{CallKey};
-ghost use Rattle.host_core.specs.Notes.{IsPlaceOf, place_of, verdict_at};
-ghost use Rattle.host_core.specs.Run.{settled_in, verdict_in};
+ghost use Rattle.ms_base.specs.declared.keys.WorkerKey.{WorkerKey};
 
-use crate::note::Note;
-use ms_base::{CallKey, NoMemory, Verdict};
+mod sent;
+
+use ms_base::{CallKey, NoMemory, Verdict, WorkerKey};
+use sent::SentBytes;
 use std::alloc::Global;
 use std::collections::BTreeMap;
 use std::marker::Model;
+use transcript::Note;
+
+// How many bytes of a frame tell the length of its payload.
+const LENGTH_SIZE: usize = 4;
 
 /// The notes, in order.
 #[derive(Debug, Drop)]
@@ -15,19 +23,21 @@ pub(crate) struct Notes {
     items: Vec<Note>,
     /// The place of the first note that settles a call, by its lane and its place in the lane.
     places: BTreeMap<(u32, u32), usize>,
+    /// The bytes that went to each worker.
+    sent: SentBytes,
 }
 
 impl Model for Notes {
     ghost use Rattle.std.specs.Prelude.{List};
-    ghost use Rattle.ms_base.specs.declared.keys.CallKey.{CallKey};
-    ghost use Rattle.host_core.specs.Notes.{IsPlaceOf, place_of};
-    ghost use Rattle.host_core.specs.declared.note.Note.{Note};
+    ghost use Rattle.transcript.specs.declared.note.Note.{Note};
 
     ghost Value = { List Note };
 
+    ghost use Rattle.host_core.specs.NoteIndexes.{AreIndexed};
+
     ghost view = { λ n. n.items.items };
 
-    ghost invariant = { λ n. (key : CallKey) → IsPlaceOf n.items.items key (place_of n.places key) };
+    ghost invariant = { λ n. AreIndexed n.items.items n.places n.sent };
 }
 
 impl Notes {
@@ -37,6 +47,7 @@ impl Notes {
         Notes {
             items: Vec::new(alloc),
             places: BTreeMap::new(alloc),
+            sent: SentBytes::new(alloc),
         }
     }
 
@@ -52,13 +63,19 @@ impl Notes {
         self.items.as_slice()
     }
 
-    /// Adds a note behind the others.
+    /// Adds a note behind the others. The payload of a request is within its limit.
     pub(crate) fn push(&mut self, note: Note) -> Result<(), NoMemory>
+        requires { IsShort note }
         ensures ok { OnOk result (self.new ≡ self.old ++ note ∷ []) }
         ensures err { OnErr result (self.new ≡ self.old) }
     {
         self.items.reserve(1)?;
-        keep_place(&mut self.places, self.items.as_slice(), &note)?;
+        index(
+            &mut self.places,
+            &mut self.sent,
+            self.items.as_slice(),
+            &note,
+        )?;
         self.items.push_reserved(note);
         Ok(())
     }
@@ -67,7 +84,9 @@ impl Notes {
     pub(crate) fn truncate(&mut self, len: usize)
         ensures { self.new ≡ take len self.old }
     {
-        self.items.truncate(len);
+        while self.items.len() > len {
+            self.pop();
+        }
     }
 
     /// What a call has come to, if it has settled: what the first note that settles it says.
@@ -75,6 +94,44 @@ impl Notes {
         ensures { result ≡ verdict_in self.now key }
     {
         verdict_at(&self.places, self.items.as_slice(), key)
+    }
+
+    /// The bytes that went to a worker.
+    pub(crate) fn sent(&self, worker: WorkerKey) -> &[u8]
+        ensures { result.now ≡ sent_of self.now worker }
+    {
+        self.sent.get(worker)
+    }
+
+    // Takes the last note away, if there is one.
+    fn pop(&mut self)
+        ensures { self.new ≡ take (length self.old - 1) self.old }
+    {
+        let Some(last) = self.items.pop() else {
+            return;
+        };
+        if let Note::Sent { worker, payload } = last {
+            self.sent
+                .cut(worker, LENGTH_SIZE + payload.as_slice().len());
+        }
+    }
+}
+
+// Keeps in the indexes of some notes what the note that comes next adds.
+fn index(
+    places: &mut BTreeMap<(u32, u32), usize>,
+    sent: &mut SentBytes,
+    notes: &[Note],
+    next: &Note,
+) -> Result<(), NoMemory>
+    requires indexed { AreIndexed notes.now places.old sent.old }
+    requires short { IsShort next.now }
+    ensures ok { OnOk result (AreIndexed (notes.now ++ next.now ∷ []) places.new sent.new) }
+    ensures err { OnErr result (AreIndexed notes.now places.new sent.new) }
+{
+    match next {
+        Note::Sent { worker, payload } => sent.append(*worker, payload.as_slice()),
+        _ => keep_place(places, notes, next),
     }
 }
 

@@ -1,18 +1,18 @@
-ghost use Rattle.std.specs.Prelude.{◌≡◌, ◌+◌, ◌^◌, ◌<◌, List, [], ◌∷◌, ◌++◌, length, OnOk, OnErr, option_copied, false};
-ghost use Rattle.host_core.specs.Indexes.{IsOnlyPlace, waits_as};
-ghost use Rattle.host_core.specs.State.{is_being_made, issued, pending, settled};
+ghost use Rattle.std.specs.Prelude.{◌≡◌, ℕ, ◌+◌, ◌-◌, ◌^◌, ◌<◌, ◌&&◌, ◌==◌, List, Some, None, OnOk, option_copied, if◌then◌else◌};
+ghost use Rattle.host_core.specs.LookUps.{waiting_at, issued_by, made_by, one_if};
+ghost use Rattle.host_core.specs.State.{same_worker, has_name};
+ghost use Rattle.ms_base.specs.declared.keys.WorkerKey.{WorkerKey};
 
 mod names;
-mod places;
 
 use crate::objects::Object;
-use ms_base::{CallKey, NoMemory, WorkerKey};
+use ms_base::{CallKey, NoMemory, Serial, WorkerKey};
 use names::NamesBeingMade;
-use places::Places;
 use std::alloc::Global;
+use std::collections::HashMap;
 use std::marker::Model;
 
-/// A request that went to a worker.
+/// A request that was issued, and has no response yet.
 #[derive(Debug, Drop)]
 pub(crate) struct Request {
     /// The worker whose channel it went by.
@@ -20,122 +20,91 @@ pub(crate) struct Request {
     /// Its id on that channel, from 1.
     pub(crate) id: u32,
     /// The call that it was made for.
-    pub(crate) call: CallKey,
-    /// The object that is added to the tree when the worker accepts.
-    pub(crate) makes: Object,
-    /// Whether a response has come.
-    pub(crate) settled: bool,
+    pub(crate) owner: CallKey,
+    /// The object that it was issued under.
+    pub(crate) under: Serial,
+    /// The object that its acceptance adds to the tree.
+    pub(crate) makes: Option<Object>,
 }
 
-impl Request {
-    // Whether it is the one of this id on a channel, and has no response yet.
-    fn waits_as(&self, worker: WorkerKey, id: u32) -> bool
-        ensures { result ≡ waits_as worker id self.now }
-    {
-        self.channel == worker && self.id == id && !self.settled
-    }
+impl Model for Request {
+    ghost use Rattle.std.specs.Prelude.{false};
+    ghost use Rattle.host_core.specs.State.{Request, Call};
+
+    ghost Value = { Request };
+
+    ghost view = { λ r. record { channel = r.channel; id = r.id; owner = Call r.owner; under = r.under; makes = r.makes; settled = false } };
 }
 
-/// The requests that went to workers, in order, settled ones too.
+/// The requests that have no response yet, and how many were issued on each channel.
 #[derive(Debug, Drop)]
 pub(crate) struct Requests {
     alloc: Global,
-    items: Vec<Request>,
-    /// Where each stands in `items`.
-    places: Places,
-    /// The names of those without a response.
+    /// By the slot and the generation of the channel, and the id.
+    waiting: HashMap<(u32, u32, u32), Request>,
+    /// How many were issued, settled ones too, by the slot and the generation of the channel.
+    issued: HashMap<(u32, u32), u32>,
+    /// The names that those without a response are to make.
     names: NamesBeingMade,
-}
-
-impl Model for Requests {
-    ghost use Rattle.std.specs.Prelude.{List};
-    ghost use Rattle.host_core.specs.declared.requests.Request.{Request};
-
-    ghost Value = { List Request };
-
-    ghost view = { λ r. r.items.items };
-
-    ghost use Rattle.host_core.specs.Indexes.{AreIndexed};
-
-    ghost invariant = { λ r. AreIndexed r.items.items r.places r.names };
 }
 
 impl Requests {
     pub(crate) fn new(alloc: Global) -> Requests
-        ensures { result ≡ [] }
+        ensures waiting { (w : WorkerKey) (id : ℕ) → waiting_at result w id ≡ None }
+        ensures issued { (w : WorkerKey) → issued_by result w ≡ 0 }
+        ensures made { (name : List ℕ) → made_by result name ≡ 0 }
     {
         Requests {
             alloc,
-            items: Vec::new(alloc),
-            places: Places::new(alloc),
+            waiting: HashMap::new(alloc),
+            issued: HashMap::new(alloc),
             names: NamesBeingMade::new(alloc),
         }
     }
 
-    /// How many requests went by a channel.
-    pub(crate) fn issued(&self, worker: WorkerKey) -> usize
-        ensures { result ≡ issued self.now worker }
+    /// How many requests were issued on a channel.
+    pub(crate) fn issued(&self, worker: WorkerKey) -> u32
+        ensures { result ≡ issued_by self.now worker }
     {
-        self.places.issued(worker)
+        self.issued
+            .get(&(worker.slot, worker.generation))
+            .copied()
+            .unwrap_or(0)
     }
 
-    /// The id of the next request on a channel.
-    pub(crate) fn next_id(&self, worker: WorkerKey) -> u32
-        requires { length self.now + 1 < 2 ^ 32 }
-        ensures { result ≡ issued self.now worker + 1 }
-    {
-        self.issued(worker) as u32 + 1
-    }
-
-    /// Adds a request behind the others.
-    pub(crate) fn issue(&mut self, request: Request) -> Result<(), NoMemory>
-        requires next { request.id ≡ issued self.old request.channel + 1 }
-        requires open { request.settled ≡ false }
-        ensures ok { OnOk result (self.new ≡ self.old ++ request ∷ []) }
-        ensures err { OnErr result (self.new ≡ self.old) }
-    {
-        self.items.reserve(1)?;
-        self.names
-            .make_room(self.alloc, request.makes.name.as_slice())?;
-        self.places
-            .add(self.alloc, request.channel, self.items.len())?;
-        self.names.raise(request.makes.name.as_slice());
-        self.items.push(request)?;
-        Ok(())
-    }
-
-    /// Whether a request that has no response yet is to make an object of this name.
+    /// Whether a request without a response is to make an object of this name.
     pub(crate) fn is_making(&self, name: &[u8]) -> bool
-        ensures { result ≡ is_being_made self.now name.now }
+        ensures { result ≡ Rattle.std.specs.Prelude.nat_lt 0 (made_by self.now name.now) }
     {
         self.names.count(name) > 0
     }
 
-    /// The request of this id on a channel, while it has no response.
-    pub(crate) fn pending(&self, worker: WorkerKey, id: u32) -> Option<&Request>
-        ensures { option_copied result ≡ pending self.now worker id }
+    /// Adds the next request of its channel.
+    pub(crate) fn issue(&mut self, request: Request) -> Result<(), NoMemory>
+        requires fits { issued_by self.old request.channel + 1 < 2 ^ 32 }
+        requires names { (name : List ℕ) → made_by self.old name + 1 < 2 ^ 64 }
+        ensures waiting { OnOk result ((w : WorkerKey) (id : ℕ) → waiting_at self.new w id ≡ (if same_worker request.channel w && request.id == id then Some request else waiting_at self.old w id)) }
+        ensures issued { OnOk result ((w : WorkerKey) → issued_by self.new w ≡ (if same_worker request.channel w then issued_by self.old w + 1 else issued_by self.old w)) }
+        ensures made { OnOk result ((name : List ℕ) → made_by self.new name ≡ made_by self.old name + one_if (has_name name request.makes)) }
     {
-        let place = self.place_of(worker, id)?;
-        Some(&self.items[place])
+        let channel = (request.channel.slot, request.channel.generation);
+        let before = self.issued(request.channel);
+        self.issued.insert(channel, before + 1)?;
+        self.names.raise_made(self.alloc, &request.makes)?;
+        self.waiting
+            .insert((channel.0, channel.1, request.id), request)?;
+        Ok(())
     }
 
-    /// Notes that the response has come to the request of this id on a channel.
-    pub(crate) fn settle(&mut self, worker: WorkerKey, id: u32)
-        ensures { self.new ≡ settled self.old worker id }
+    /// Takes out the request of this id on a channel, if it waits.
+    pub(crate) fn settle(&mut self, worker: WorkerKey, id: u32) -> Option<Request>
+        ensures found { result ≡ waiting_at self.old worker id }
+        ensures waiting { (w : WorkerKey) (i : ℕ) → waiting_at self.new w i ≡ (if same_worker worker w && id == i then None else waiting_at self.old w i) }
+        ensures issued { (w : WorkerKey) → issued_by self.new w ≡ issued_by self.old w }
+        ensures made { (name : List ℕ) → made_by self.new name ≡ made_by self.old name - one_if (Rattle.host_core.specs.LookUps.makes_named name result) }
     {
-        if let Some(place) = self.place_of(worker, id) {
-            let request = &mut self.items[place];
-            request.settled = true;
-            self.names.lower(request.makes.name.as_slice());
-        }
-    }
-
-    // Where the request of this id on a channel stands, while it has no response.
-    fn place_of(&self, worker: WorkerKey, id: u32) -> Option<usize>
-        ensures { IsOnlyPlace (waits_as worker id) self.now result }
-    {
-        let place = self.places.get(worker, id)?;
-        let request = self.items.get(place)?;
-        request.waits_as(worker, id).then_some(place)
+        let request = self.waiting.remove(&(worker.slot, worker.generation, id))?;
+        self.names.lower_made(&request.makes);
+        Some(request)
     }
 }

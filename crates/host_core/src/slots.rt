@@ -1,27 +1,46 @@
-ghost use Rattle.std.specs.Prelude.{◌≡◌, ◌-◌, List, [], ◌∷◌, ◌++◌, length, OnOk, OnErr, option_copied, option_map, slice_get};
-ghost use Rattle.host_core.specs.Kept.{shown};
-ghost use Rattle.host_core.specs.State.{slot_of, slot_with, is_up_in, is_wanted_in};
-ghost use Rattle.host_core.specs.Step.{up_if, running_if, with_up, with_running};
+ghost use Rattle.std.specs.Prelude.{◌≡◌, ◌≤◌, [], ◌∷◌, ◌++◌, length, map, OnOk, OnErr, option_copied, slice_get, option_map, vec_capacity};
+ghost use Rattle.host_core.specs.LookUps.{shown_of, shown_view};
+ghost use Rattle.host_core.specs.State.{up_slot, is_up, is_wanted, channel_of, with_up, with_call_settled, up_if, call_settled_if};
 
 use ms_base::{CallKey, Name, NoMemory, Serial, WorkerKey};
 use std::alloc::Global;
 use std::marker::Model;
 
-/// A place for a worker process, made by a call of `worker`.
+/// How far the start of a slot's latest worker is.
+#[derive(Clone, Copy, Debug, PartialEq, Eq)]
+pub(crate) enum Phase {
+    /// It is wanted, and was not tried yet.
+    Wanted,
+    /// The worker was started.
+    Up,
+}
+
+/// A place for worker processes, one generation after another.
 #[derive(Debug, Drop)]
 pub(crate) struct Slot {
-    /// Its number, from 1, with the generation of its latest worker.
-    pub(crate) worker: WorkerKey,
-    /// The call that asked for it.
-    pub(crate) call: CallKey,
+    /// Its number, from 1, and the generation of its latest worker.
+    pub(crate) key: WorkerKey,
     /// The name of its Workers.
     pub(crate) name: Name,
-    /// The serial of its latest Worker.
-    pub(crate) serial: Serial,
-    /// Whether the latest worker was started.
-    pub(crate) up: bool,
-    /// Whether the latest worker has said that it is running.
-    pub(crate) running: bool,
+    /// How many restarts it has.
+    pub(crate) budget: u32,
+    /// How many of them were used.
+    pub(crate) used: u32,
+    pub(crate) phase: Phase,
+    /// Its latest Worker.
+    pub(crate) worker: Serial,
+    /// The call of `worker` that waits until the Worker runs.
+    pub(crate) call: Option<CallKey>,
+}
+
+impl Model for Slot {
+    ghost use Rattle.host_core.specs.State.{Slot};
+
+    ghost Value = { Slot };
+
+    ghost use Rattle.host_core.specs.LookUps.{phase_of};
+
+    ghost view = { λ x. record { key = x.key; name = x.name; budget = x.budget; used = x.used; phase = phase_of x.phase; worker = x.worker; call = x.call } };
 }
 
 impl Slot {
@@ -29,117 +48,164 @@ impl Slot {
     fn start_if(&mut self, worker: WorkerKey)
         ensures { self.new ≡ up_if worker self.old }
     {
-        if self.worker == worker {
-            self.up = true;
+        if self.key == worker {
+            self.phase = Phase::Up;
         }
     }
 
-    // Notes that the worker runs, if it is the latest here.
-    fn set_running_if(&mut self, worker: WorkerKey)
-        ensures { self.new ≡ running_if worker self.old }
+    // Notes that no call waits any more for the worker, if it is the latest here.
+    fn settle_call_if(&mut self, worker: WorkerKey)
+        ensures { self.new ≡ call_settled_if worker self.old }
     {
-        if self.worker == worker {
-            self.running = true;
+        if self.key == worker {
+            self.call = None;
         }
     }
 }
 
-/// The slots, in order of their numbers.
+/// What is shown of a slot.
+#[derive(Clone, Copy, Debug, PartialEq, Eq)]
+pub(crate) struct Shown {
+    pub(crate) key: WorkerKey,
+    pub(crate) phase: Phase,
+}
+
+/// The slots, in order of their numbers; and what is shown of them, which stays as it is until it is kept anew.
 #[derive(Debug, Drop)]
 pub(crate) struct Slots {
     items: Vec<Slot>,
+    shown: Vec<Shown>,
+    /// Whether no slot has changed since they were shown.
+    fresh: bool,
 }
 
 impl Model for Slots {
-    ghost use Rattle.std.specs.Prelude.{List};
-    ghost use Rattle.host_core.specs.declared.slots.Slot.{Slot};
+    ghost use Rattle.host_core.specs.LookUps.{SlotsView};
 
-    ghost Value = { List Slot };
+    ghost Value = { SlotsView };
 
-    ghost view = { λ s. s.items.items };
+    ghost use Rattle.std.specs.Prelude.{map};
+    ghost use Rattle.host_core.specs.LookUps.{shown_view, MayShow};
+
+    ghost view = { λ s. record { slots = s.items.items; shown = map shown_view s.shown.items } };
+
+    ghost invariant = { λ s. MayShow s.items.items s.shown s.fresh };
 }
 
 impl Slots {
     pub(crate) fn new(alloc: Global) -> Slots
-        ensures { result ≡ [] }
+        ensures { result ≡ record { slots = []; shown = [] } }
     {
         Slots {
             items: Vec::new(alloc),
+            shown: Vec::new(alloc),
+            fresh: true,
         }
     }
 
     pub(crate) fn len(&self) -> usize
-        ensures { result ≡ length self.now }
+        ensures { result ≡ length self.now.slots }
     {
         self.items.len()
     }
 
     /// Adds a slot behind the others.
     pub(crate) fn add(&mut self, slot: Slot) -> Result<(), NoMemory>
-        ensures ok { OnOk result (self.new ≡ self.old ++ slot ∷ []) }
+        ensures ok { OnOk result (self.new ≡ record self.old { slots = self.old.slots ++ slot ∷ [] }) }
         ensures err { OnErr result (self.new ≡ self.old) }
     {
+        let lacking = self.items.len() + 1 - self.shown.len();
+        self.shown.reserve(lacking)?;
         self.items.push(slot)?;
+        self.fresh = false;
         Ok(())
     }
 
-    /// The latest worker of the slot at a place, from 0, and whether it was started.
-    pub(crate) fn shown_at(&self, place: usize) -> Option<(WorkerKey, bool)>
-        ensures { result ≡ option_map shown (slice_get self.now place) }
+    /// From now on what is shown is that of the slots as they are.
+    pub(crate) fn show(&mut self)
+        ensures { self.new ≡ record self.old { shown = map shown_of self.old.slots } }
     {
-        let slot = self.items.get(place)?;
-        Some((slot.worker, slot.up))
-    }
-
-    /// The slot whose latest worker this is.
-    pub(crate) fn of(&self, worker: WorkerKey) -> Option<&Slot>
-        ensures { option_copied result ≡ slot_of self.now worker }
-    {
-        self.items.iter().find(|slot| slot.worker == worker)
-    }
-
-    /// The slot whose latest Worker has this serial.
-    pub(crate) fn with(&self, serial: Serial) -> Option<&Slot>
-        ensures { option_copied result ≡ slot_with self.now serial }
-    {
-        self.items.iter().find(|slot| slot.serial == serial)
-    }
-
-    /// Whether a worker is the latest of its slot, and was started.
-    pub(crate) fn is_up(&self, worker: WorkerKey) -> bool
-        ensures { result ≡ is_up_in (slot_of self.now worker) }
-    {
-        match self.of(worker) {
-            Some(slot) => slot.up,
-            None => false,
+        if self.fresh {
+            return;
         }
+        show_all(self.items.as_slice(), &mut self.shown);
+        self.fresh = true;
+    }
+
+    /// What is shown of the slot at a place, from 0.
+    pub(crate) fn shown_at(&self, place: usize) -> Option<Shown>
+        ensures { option_map shown_view result ≡ slice_get self.now.shown place }
+    {
+        self.shown.get(place).copied()
+    }
+
+    /// The slot whose latest worker this is, where it is up.
+    pub(crate) fn up(&self, worker: WorkerKey) -> Option<&Slot>
+        ensures { option_copied result ≡ up_slot self.now.slots worker }
+    {
+        self.items
+            .iter()
+            .find(|slot| slot.key == worker && slot.phase == Phase::Up)
+    }
+
+    /// Whether a worker is up.
+    pub(crate) fn is_up(&self, worker: WorkerKey) -> bool
+        ensures { result ≡ is_up self.now.slots worker }
+    {
+        self.up(worker).is_some()
     }
 
     /// Whether the start of a worker is wanted and was not tried yet.
     pub(crate) fn is_wanted(&self, worker: WorkerKey) -> bool
-        ensures { result ≡ is_wanted_in (slot_of self.now worker) }
+        ensures { result ≡ is_wanted self.now.slots worker }
     {
-        match self.of(worker) {
-            Some(slot) => !slot.up,
-            None => false,
-        }
+        self.items
+            .iter()
+            .any(|slot| slot.key == worker && slot.phase != Phase::Up)
+    }
+
+    /// The channel of the Worker of a serial, while its process is up.
+    pub(crate) fn channel_of(&self, worker: Serial) -> Option<WorkerKey>
+        ensures { result ≡ channel_of self.now.slots worker }
+    {
+        self.items
+            .iter()
+            .find(|slot| slot.worker == worker && slot.phase == Phase::Up)
+            .map(|slot| slot.key)
     }
 
     /// Notes that a worker was started.
     pub(crate) fn start(&mut self, worker: WorkerKey)
-        ensures { self.new ≡ with_up self.old worker }
+        ensures { self.new ≡ record self.old { slots = with_up worker self.old.slots } }
     {
+        self.fresh = false;
         for slot in self.items.iter_mut() {
             slot.start_if(worker);
         }
     }
 
-    /// Notes that a worker has said that it is running.
-    pub(crate) fn set_running(&mut self, worker: WorkerKey)
-        ensures { self.new ≡ with_running self.old worker }
+    /// Notes that no call waits any more until a worker runs.
+    pub(crate) fn settle_call(&mut self, worker: WorkerKey)
+        ensures { self.new ≡ record self.old { slots = with_call_settled worker self.old.slots } }
     {
+        self.fresh = false;
         for slot in self.items.iter_mut() {
-            slot.set_running_if(worker);
+            slot.settle_call_if(worker);
         }
+    }
+}
+
+// Shows these slots and no others. There is room for them.
+fn show_all(slots: &[Slot], shown: &mut Vec<Shown>)
+    requires { length slots.now ≤ vec_capacity shown.old }
+    ensures shown { map shown_view shown.new.items ≡ map shown_of slots.now }
+    ensures room { vec_capacity shown.new ≡ vec_capacity shown.old }
+{
+    shown.clear();
+    for slot in slots {
+        shown.push_reserved(Shown {
+            key: slot.key,
+            phase: slot.phase,
+        });
     }
 }

@@ -1,55 +1,41 @@
-ghost use Rattle.std.specs.Prelude.{◌≡◌, ◌+◌, ◌^◌, ◌<◌, ◌≤◌, ◌&&◌, [], ◌++◌, length, OnOk, OnErr, IfOk, None, Some, false, map, option_map, slice_get};
-ghost use Rattle.ms_base.specs.declared.keys.WorkerKey.{WorkerKey};
-ghost use Rattle.host_core.specs.Call.{first_refusal, refusal_by_worker, called, accepted_worker, accepted_router, accepted_call, router_by_worker, new_router, requested, max_slots};
-ghost use Rattle.host_core.specs.Frames.{frames};
-ghost use Rattle.host_core.specs.Kept.{HasRoom, Goes, IsCutOff, kept_bytes, shown};
-ghost use Rattle.host_core.specs.Message.{message_of};
-ghost use Rattle.host_core.specs.Run.{sent_of};
-ghost use Rattle.host_core.specs.State.{start, is_taken, is_up, is_wanted, named, stream_of, pending, issued, object_id};
-ghost use Rattle.host_core.specs.Step.{started, heard, noticed, accepted_response, refused_response, is_unbuilt, is_unbuilt_op};
+ghost use Rattle.std.specs.Prelude.{◌≡◌, ◌+◌, ◌^◌, ◌<◌, ◌≤◌, [], length, OnOk, IfSome, Some, None};
+ghost use Rattle.channel_frames.specs.Frames.{max_payload};
+ghost use Rattle.channel_msgs.specs.Read.{message_of};
+ghost use Rattle.channel_msgs.specs.View.{message_view, notice_view};
+ghost use Rattle.channel_msgs.specs.View as msgs;
+ghost use Rattle.host_core.specs.Answer.{max_slots};
+ghost use Rattle.host_core.specs.LookUps.{IsFresh, IsShort, issued_by, waiting_at};
+ghost use Rattle.host_core.specs.State.{start, up_slot, numbered, as_serial};
+ghost use Rattle.host_core.specs.Step.{answered, called, heard, noted, noticed, object_added, ran, replied, request_issued, says_running, serials_drawn, settled_by, started, step, worker_wanted, Says};
+ghost use Rattle.host_core.specs.Tables.{answer_view, known_of, IsDue, IsFree, IsKept, Goes, Moves, HasNames, HasRoom, HasSerial, ShowsTheSame};
 
+use crate::answer::Answer as CallAnswer;
 use crate::calls::Calls;
-use crate::message::Message;
-use crate::note::Note;
 use crate::notes::Notes;
 use crate::objects::{Object, Objects};
-use crate::payloads::{create_router, frame};
 use crate::requests::{Request, Requests};
-use crate::slots::{Slot, Slots};
-use crate::streams::{Stream, Streams};
-use ms_base::{
-    Bytes, CallKey, Code, Entry, Id, Kind, Name, NoMemory, Op, Outcome, Serial, Text, WorkerKey,
-};
+use crate::slots::{Phase, Slot, Slots};
+use channel_msgs::{Answer, Message, MessageFault, Notice, Reply, read_message};
+use ms_base::{Bytes, CallKey, Kind, Name, NoMemory, Op, Outcome, Serial, WorkerKey};
 use std::alloc::Global;
-use std::marker::Model;
+use transcript::Note;
 
-/// How many slots there may be.
-const MAX_SLOTS: usize = 64;
-
-/// What the host knows, but that of each stream it keeps only what waits for the rest of its frame.
-#[derive(Debug, Drop)]
+/// What the host knows, but for the streams of its workers.
+#[derive(Drop)]
 pub(crate) struct Tables {
-    alloc: Global,
-    seed: u64,
-    objects: Objects,
-    requests: Requests,
-    calls: Calls,
-    slots: Slots,
-    streams: Streams,
-    next: u32,
-}
-
-impl Model for Tables {
-    ghost use Rattle.host_core.specs.State.{State};
-
-    ghost Value = { State };
-
-    ghost view = { λ t. record { seed = t.seed; objects = t.objects; requests = t.requests; calls = t.calls; slots = t.slots; streams = t.streams; next = t.next } };
+    pub(crate) alloc: Global,
+    pub(crate) seed: u64,
+    pub(crate) objects: Objects,
+    pub(crate) requests: Requests,
+    pub(crate) calls: Calls,
+    pub(crate) slots: Slots,
+    pub(crate) notes: Notes,
 }
 
 impl Tables {
     pub(crate) fn new(alloc: Global, seed: u64) -> Tables
-        ensures { result ≡ start seed }
+        ensures kept { IsKept (start seed) result }
+        ensures shown { result.slots.shown ≡ Rattle.std.specs.Prelude.[] }
     {
         Tables {
             alloc,
@@ -58,429 +44,254 @@ impl Tables {
             requests: Requests::new(alloc),
             calls: Calls::new(alloc),
             slots: Slots::new(alloc),
-            streams: Streams::new(alloc),
-            next: 1,
+            notes: Notes::new(alloc),
         }
     }
 
-    /// A lane makes a call. What it sends to a worker goes behind what was sent to it.
-    pub(crate) fn call(
-        &mut self,
-        lane: u32,
-        op: &Op,
-        notes: &mut Notes,
-        sent: &mut Streams,
-    ) -> Result<(), NoMemory>
+    /// A lane makes a call.
+    pub(crate) fn call(&mut self, lane: u32, op: &Op) -> Result<(), NoMemory>
         requires { HasRoom self.old }
-        ensures ok { OnOk result (Goes self.new notes.old notes.new (called self.old lane op.now)) }
-        ensures err { OnErr result (IsCutOff self.old self.new notes.old notes.new) }
-        ensures sent { OnOk result ((w : WorkerKey) → stream_of sent.new w ≡ stream_of sent.old w ++ sent_of (called self.old lane op.now).1 w) }
-        ensures unsent { OnErr result (sent.new ≡ sent.old) }
+        ensures ok { OnOk result (Goes (called lane op.now) self.old self.new) }
+        ensures shown { ShowsTheSame self.old self.new }
     {
         let call = self.calls.next(lane);
-        match self.first_refusal(op) {
-            Some(outcome) => {
-                self.calls.add(call)?;
-                notes.push(Note::Settled { call, outcome })
+        let answer = self.answer(op)?;
+        self.calls.add(lane)?;
+        self.follow(call, answer)
+    }
+
+    // What a call comes to is done.
+    fn follow(&mut self, call: CallKey, answer: CallAnswer) -> Result<(), NoMemory>
+        requires serial { HasSerial self.old }
+        requires names { HasNames self.old }
+        requires due { IsDue (known_of self.old) (answer_view answer) }
+        ensures ok { OnOk result (IsFree self.old (answer_view answer) → Moves (answered call (answer_view answer)) self.old self.new) }
+        ensures shown { ShowsTheSame self.old self.new }
+    {
+        match answer {
+            CallAnswer::Refuses { outcome } => self.note(Note::Settled { call, outcome }),
+            CallAnswer::AddsWorker { name, budget } => self.want_worker(call, &name, budget),
+            CallAnswer::Issues {
+                under,
+                makes,
+                channel,
+                id,
+                payload,
+            } => {
+                let request = Request {
+                    channel,
+                    id,
+                    owner: call,
+                    under,
+                    makes,
+                };
+                self.issue(request, payload)
             }
-            None => self.accept(call, op, notes, sent),
         }
     }
 
-    // The first refusal that a call meets.
-    fn first_refusal(&self, op: &Op) -> Option<Outcome>
-        ensures { result ≡ first_refusal self.now op.now }
+    // A Worker stands in the tree from its call on, and its start is wanted.
+    fn want_worker(&mut self, call: CallKey, name: &Name, budget: u32) -> Result<(), NoMemory>
+        requires serial { HasSerial self.old }
+        requires slots { length self.old.slots.slots < max_slots }
+        ensures ok { OnOk result (numbered self.old.objects.objects (as_serial self.old.objects.next) ≡ None → Moves (worker_wanted call name.now budget) self.old self.new) }
+        ensures shown { ShowsTheSame self.old self.new }
     {
-        match op {
-            Op::Worker { name, .. } => {
-                if self.is_taken(name) {
-                    Some(Outcome::NameTaken)
-                } else if self.slots.len() >= MAX_SLOTS {
-                    Some(Outcome::TypeError { code: Code::Slots })
-                } else {
-                    None
-                }
-            }
-            Op::Router { name, worker, .. } => {
-                if self.is_taken(name) {
-                    Some(Outcome::NameTaken)
-                } else {
-                    self.refusal_by_worker(worker)
-                }
-            }
-        }
-    }
-
-    // Whether an object has a name, or a pending call is to make one that has it.
-    fn is_taken(&self, name: &Name) -> bool
-        ensures { result ≡ is_taken self.now name.now }
-    {
-        self.objects.named(name.as_slice()).is_some() || self.requests.is_making(name.as_slice())
-    }
-
-    // The first refusal of a request to the Worker of a name.
-    fn refusal_by_worker(&self, worker: &Name) -> Option<Outcome>
-        ensures { result ≡ refusal_by_worker self.now (named self.now.objects worker.now) }
-    {
-        let Some(object) = self.objects.named(worker.as_slice()) else {
-            return Some(Outcome::NoName);
-        };
-        if object.kind != Kind::Worker {
-            return Some(Outcome::WrongKind);
-        }
-        match self.slots.with(object.serial) {
-            None => Some(Outcome::InvalidState),
-            Some(slot) if !slot.running => Some(Outcome::InvalidState),
-            Some(slot) if self.requests.issued(slot.worker) >= u32::MAX as usize => {
-                Some(Outcome::IdsSpent)
-            }
-            Some(_) => None,
-        }
-    }
-
-    // Does what an accepted call asks.
-    fn accept(
-        &mut self,
-        call: CallKey,
-        op: &Op,
-        notes: &mut Notes,
-        sent: &mut Streams,
-    ) -> Result<(), NoMemory>
-        requires room { HasRoom self.old }
-        requires accepted { first_refusal self.old op.now ≡ None }
-        ensures ok { OnOk result (Goes self.new notes.old notes.new (accepted_call self.old call op.now)) }
-        ensures err { OnErr result (IsCutOff self.old self.new notes.old notes.new) }
-        ensures sent { OnOk result ((w : WorkerKey) → stream_of sent.new w ≡ stream_of sent.old w ++ sent_of (accepted_call self.old call op.now).1 w) }
-        ensures unsent { OnErr result (sent.new ≡ sent.old) }
-    {
-        match op {
-            Op::Worker { name, .. } => self.add_worker(call, name, notes),
-            Op::Router { name, worker, .. } => self.ask_router(call, name, worker, notes, sent),
-        }
-    }
-
-    // Adds a Worker, whose start is wanted.
-    fn add_worker(&mut self, call: CallKey, name: &Name, notes: &mut Notes) -> Result<(), NoMemory>
-        requires room { HasRoom self.old }
-        requires slots { length self.old.slots < max_slots }
-        ensures ok { OnOk result (Goes self.new notes.old notes.new (accepted_worker self.old call name.now)) }
-        ensures err { OnErr result (IsCutOff self.old self.new notes.old notes.new) }
-    {
-        let serial = Serial(self.next);
-        let id = object_id(self.seed, self.next);
-        let worker = WorkerKey {
+        let serial = Serial(self.objects.next());
+        let worker = self.new_object(Kind::Worker, name, None, serial)?;
+        let key = WorkerKey {
             slot: self.slots.len() as u32 + 1,
             generation: 1,
         };
-        notes.push(Note::Open {
-            serial,
-            kind: Kind::Worker,
-            name: name.copy(self.alloc)?,
-            id,
-        })?;
-        notes.push(Note::Spawn { worker })?;
-        self.objects.add(Object {
-            serial,
-            kind: Kind::Worker,
-            name: name.copy(self.alloc)?,
-            id,
-            worker: serial,
-        })?;
-        self.calls.add(call)?;
         self.slots.add(Slot {
-            worker,
-            call,
+            key,
             name: name.copy(self.alloc)?,
-            serial,
-            up: false,
-            running: false,
+            budget,
+            used: 0,
+            phase: Phase::Wanted,
+            worker: serial,
+            call: Some(call),
         })?;
-        self.next += 1;
-        Ok(())
+        self.objects.draw()?;
+        self.add_object(worker)?;
+        self.note(Note::Spawn { worker: key })
     }
 
-    // Asks the Worker of a name for a Router.
-    fn ask_router(
-        &mut self,
-        call: CallKey,
-        name: &Name,
-        worker: &Name,
-        notes: &mut Notes,
-        sent: &mut Streams,
-    ) -> Result<(), NoMemory>
-        requires room { HasRoom self.old }
-        ensures ok { OnOk result (Goes self.new notes.old notes.new (router_by_worker self.old call (named self.old.objects worker.now) name.now)) }
-        ensures err { OnErr result (IsCutOff self.old self.new notes.old notes.new) }
-        ensures sent { OnOk result ((w : WorkerKey) → stream_of sent.new w ≡ stream_of sent.old w ++ sent_of (router_by_worker self.old call (named self.old.objects worker.now) name.now).1 w) }
-        ensures unsent { OnErr result (sent.new ≡ sent.old) }
+    // An object stands in the tree, whose serial was drawn.
+    fn add_object(&mut self, object: Object) -> Result<(), NoMemory>
+        ensures ok { OnOk result (IsFresh self.old.objects object → Moves (object_added object) self.old self.new) }
+        ensures shown { ShowsTheSame self.old self.new }
     {
-        let Some(object) = self.objects.named(worker.as_slice()) else {
-            return Ok(());
-        };
-        let worker = object.serial;
-        let Some(slot) = self.slots.with(worker) else {
-            return Ok(());
-        };
-        let channel = slot.worker;
-        self.send_router(call, name, worker, channel, notes, sent)
-    }
-
-    // Sends the request for a Router to a worker.
-    fn send_router(
-        &mut self,
-        call: CallKey,
-        name: &Name,
-        worker: Serial,
-        channel: WorkerKey,
-        notes: &mut Notes,
-        sent: &mut Streams,
-    ) -> Result<(), NoMemory>
-        requires room { HasRoom self.old }
-        ensures ok { OnOk result (Goes self.new notes.old notes.new (accepted_router self.old call worker channel name.now)) }
-        ensures err { OnErr result (IsCutOff self.old self.new notes.old notes.new) }
-        ensures sent { OnOk result ((w : WorkerKey) → stream_of sent.new w ≡ stream_of sent.old w ++ sent_of (accepted_router self.old call worker channel name.now).1 w) }
-        ensures unsent { OnErr result (sent.new ≡ sent.old) }
-    {
-        let id = self.requests.next_id(channel);
-        let makes = self.new_router(name, worker)?;
-        let payload = create_router(self.alloc, id, &makes)?;
-        let request = Request {
-            channel,
-            id,
-            call,
-            makes,
-            settled: false,
-        };
-        self.send(request, payload, notes, sent)
-    }
-
-    // The Router that the next request makes.
-    fn new_router(&self, name: &Name, worker: Serial) -> Result<Object, NoMemory>
-        requires { HasRoom self.now }
-        ensures { IfOk result (λ router. router ≡ new_router self.now worker name.now) }
-    {
-        Ok(Object {
-            serial: Serial(self.next),
-            kind: Kind::Router,
-            name: name.copy(self.alloc)?,
-            id: object_id(self.seed, self.next),
-            worker,
-        })
-    }
-
-    // Sends a request, whose object has the next serial.
-    fn send(
-        &mut self,
-        request: Request,
-        payload: Bytes,
-        notes: &mut Notes,
-        sent: &mut Streams,
-    ) -> Result<(), NoMemory>
-        requires next { self.old.next + 1 < 2 ^ 32 }
-        requires id { request.id ≡ issued self.old.requests request.channel + 1 }
-        requires open { request.settled ≡ false }
-        requires short { length payload < 2 ^ 32 }
-        ensures ok { OnOk result (Goes self.new notes.old notes.new (requested self.old request payload)) }
-        ensures err { OnErr result (IsCutOff self.old self.new notes.old notes.new) }
-        ensures sent { OnOk result ((w : WorkerKey) → stream_of sent.new w ≡ stream_of sent.old w ++ sent_of (requested self.old request payload).1 w) }
-        ensures unsent { OnErr result (sent.new ≡ sent.old) }
-    {
-        let channel = request.channel;
-        let bytes = frame(self.alloc, payload.as_slice())?;
-        notes.push(Note::Sent {
-            worker: channel,
-            payload,
-        })?;
-        self.calls.add(request.call)?;
-        self.requests.issue(request)?;
-        sent.append(self.alloc, channel, bytes.as_slice())?;
-        self.next += 1;
-        Ok(())
-    }
-
-    /// A wanted worker was started.
-    pub(crate) fn start(&mut self, worker: WorkerKey, notes: &mut Notes) -> Result<(), NoMemory>
-        ensures ok { OnOk result (Goes self.new notes.old notes.new (started self.old worker)) }
-        ensures err { OnErr result (IsCutOff self.old self.new notes.old notes.new) }
-    {
-        self.streams.add(Stream {
-            worker,
-            bytes: Bytes::new(self.alloc),
-        })?;
-        notes.push(Note::Up { worker })?;
-        self.slots.start(worker);
-        Ok(())
-    }
-
-    /// A worker that is up says something.
-    pub(crate) fn hear(
-        &mut self,
-        worker: WorkerKey,
-        message: Message,
-        notes: &mut Notes,
-    ) -> Result<(), NoMemory>
-        ensures ok { OnOk result (Goes self.new notes.old notes.new (heard self.old worker message)) }
-        ensures err { OnErr result (IsCutOff self.old self.new notes.old notes.new) }
-    {
-        match message {
-            Message::Accepted { id } => self.accepted(worker, id, notes),
-            Message::Refused { id, error, reason } => {
-                self.refused(worker, id, Outcome::Worker { error, reason }, notes)
-            }
-            Message::Notice { target, event } => self.noticed(worker, &target, &event, notes),
-            Message::Packet { .. } => notes.push(Note::Stray { worker }),
-            Message::Log { level, text } => notes.push(Note::Log {
-                worker,
-                level,
-                text,
-            }),
-            Message::Unexpected => notes.push(Note::Unexpected { worker }),
-        }
-    }
-
-    // The response to a request has come, and accepts it.
-    fn accepted(&mut self, worker: WorkerKey, id: u32, notes: &mut Notes) -> Result<(), NoMemory>
-        ensures ok { OnOk result (Goes self.new notes.old notes.new (accepted_response self.old worker id (pending self.old.requests worker id))) }
-        ensures err { OnErr result (IsCutOff self.old self.new notes.old notes.new) }
-    {
-        let Some(request) = self.requests.pending(worker, id) else {
-            return notes.push(Note::Late { worker, id });
-        };
-        let call = request.call;
-        let object = request.makes.copy(self.alloc)?;
-        notes.push(Note::Open {
+        let opened = Note::Open {
             serial: object.serial,
             kind: object.kind,
             name: object.name.copy(self.alloc)?,
             id: object.id,
-        })?;
-        notes.push(Note::Settled {
-            call,
-            outcome: Outcome::Done,
-        })?;
-        self.objects.add(object)?;
-        self.requests.settle(worker, id);
-        Ok(())
-    }
-
-    // The response to a request has come, and refuses it.
-    fn refused(
-        &mut self,
-        worker: WorkerKey,
-        id: u32,
-        outcome: Outcome,
-        notes: &mut Notes,
-    ) -> Result<(), NoMemory>
-        ensures ok { OnOk result (Goes self.new notes.old notes.new (refused_response self.old worker id outcome (pending self.old.requests worker id))) }
-        ensures err { OnErr result (IsCutOff self.old self.new notes.old notes.new) }
-    {
-        let Some(request) = self.requests.pending(worker, id) else {
-            return notes.push(Note::Late { worker, id });
         };
-        let call = request.call;
-        notes.push(Note::Settled { call, outcome })?;
-        self.requests.settle(worker, id);
+        self.objects.add(object)?;
+        self.note(opened)
+    }
+
+    // A request goes to a worker, as the next of its channel.
+    fn issue(&mut self, request: Request, payload: Bytes) -> Result<(), NoMemory>
+        requires id { request.id ≡ issued_by self.old.requests request.channel + 1 }
+        requires fits { request.id < 2 ^ 32 }
+        requires short { length payload ≤ max_payload }
+        requires names { HasNames self.old }
+        ensures ok { OnOk result (waiting_at self.old.requests request.channel request.id ≡ None → Moves (request_issued request payload) self.old self.new) }
+        ensures shown { ShowsTheSame self.old self.new }
+    {
+        let worker = request.channel;
+        self.draw_for(&request.makes)?;
+        self.requests.issue(request)?;
+        self.note(Note::Sent { worker, payload })
+    }
+
+    // Draws the serial of an object that is to be made.
+    fn draw_for(&mut self, object: &Option<Object>) -> Result<(), NoMemory>
+        ensures ok { OnOk result (self.new ≡ record self.old { objects = record self.old.objects { next = self.old.objects.next + serials_drawn object.now } }) }
+        ensures shown { ShowsTheSame self.old self.new }
+    {
+        match object {
+            Some(_) => self.objects.draw(),
+            None => Ok(()),
+        }
+    }
+
+    // A note comes behind the others.
+    fn note(&mut self, note: Note) -> Result<(), NoMemory>
+        requires { IsShort note }
+        ensures ok { OnOk result (Moves (noted note) self.old self.new) }
+        ensures shown { ShowsTheSame self.old self.new }
+    {
+        self.notes.push(note)
+    }
+
+    /// A wanted worker was started.
+    pub(crate) fn start(&mut self, worker: WorkerKey) -> Result<(), NoMemory>
+        ensures ok { OnOk result (Moves (started worker) self.old self.new) }
+        ensures shown { ShowsTheSame self.old self.new }
+    {
+        self.note(Note::Up { worker })?;
+        self.slots.start(worker);
         Ok(())
     }
 
-    // A worker tells an event.
-    fn noticed(
-        &mut self,
-        worker: WorkerKey,
-        target: &Text,
-        event: &Text,
-        notes: &mut Notes,
-    ) -> Result<(), NoMemory>
-        ensures ok { OnOk result (Goes self.new notes.old notes.new (noticed self.old worker target.now event.now)) }
-        ensures err { OnErr result (IsCutOff self.old self.new notes.old notes.new) }
+    /// A worker says something, in one payload of its channel.
+    pub(crate) fn hear(&mut self, worker: WorkerKey, payload: &[u8]) -> Result<(), NoMemory>
+        ensures ok { OnOk result (Goes (λ s. step s (Says worker (message_of payload.now))) self.old self.new) }
+        ensures shown { ShowsTheSame self.old self.new }
     {
-        let says_running = target.as_str() == "worker" && event.as_str() == "running";
-        match self.slots.of(worker) {
-            Some(slot) if says_running && !slot.running => {
-                let call = slot.call;
-                notes.push(Note::Running {
-                    name: slot.name.copy(self.alloc)?,
-                    generation: worker.generation,
-                })?;
-                notes.push(Note::Settled {
+        if !self.slots.is_up(worker) {
+            return Ok(());
+        }
+        match read_message(self.alloc, payload) {
+            Ok(message) => self.hear_message(worker, message),
+            Err(MessageFault::Unexpected) => self.note(Note::Unexpected { worker }),
+            Err(MessageFault::NoMemory) => Err(NoMemory),
+        }
+    }
+
+    // A worker that is up sends a message.
+    fn hear_message(&mut self, worker: WorkerKey, message: Message) -> Result<(), NoMemory>
+        ensures ok { OnOk result (IfSome (up_slot self.old.slots.slots worker) (λ x. Goes (heard x (Some (message_view message))) self.old self.new)) }
+        ensures shown { ShowsTheSame self.old self.new }
+    {
+        match message {
+            Message::Reply(reply) => self.reply(worker, reply),
+            Message::Notice(notice) => self.notice(worker, &notice),
+            Message::Log { level, text } => self.note(Note::Log {
+                worker,
+                level,
+                text,
+            }),
+            Message::Rtp { .. } => self.note(Note::Stray { worker }),
+        }
+    }
+
+    // A reply has come: it settles the request of its id, if that waits.
+    fn reply(&mut self, worker: WorkerKey, reply: Reply) -> Result<(), NoMemory>
+        ensures ok { OnOk result (Goes (replied worker reply.id (msgs.answer_view reply.answer)) self.old self.new) }
+        ensures shown { ShowsTheSame self.old self.new }
+    {
+        match self.requests.settle(worker, reply.id) {
+            Some(request) => self.settle(request, reply.answer),
+            None => self.note(Note::Late {
+                worker,
+                id: reply.id,
+            }),
+        }
+    }
+
+    // A request has had its response, and waits no more.
+    fn settle(&mut self, request: Request, answer: Answer) -> Result<(), NoMemory>
+        ensures ok { OnOk result (IfSome request.makes (IsFresh self.old.objects) → Moves (settled_by (msgs.answer_view answer) request) self.old self.new) }
+        ensures shown { ShowsTheSame self.old self.new }
+    {
+        let call = request.owner;
+        match answer {
+            Answer::Accepted(_) => {
+                if let Some(object) = request.makes {
+                    self.add_object(object)?;
+                }
+                self.note(Note::Settled {
                     call,
                     outcome: Outcome::Done,
-                })?;
-                self.slots.set_running(worker);
-                Ok(())
+                })
             }
-            _ => notes.push(Note::Stray { worker }),
+            Answer::Refused { error, reason } => self.note(Note::Settled {
+                call,
+                outcome: Outcome::Worker { error, reason },
+            }),
         }
     }
 
-    /// The messages that are whole with these bytes of a worker.
-    pub(crate) fn take_in(
+    // A notice has come from a worker that is up.
+    fn notice(&mut self, worker: WorkerKey, notice: &Notice) -> Result<(), NoMemory>
+        ensures ok { OnOk result (IfSome (up_slot self.old.slots.slots worker) (λ x. Moves (noticed x (notice_view notice.now)) self.old self.new)) }
+        ensures shown { ShowsTheSame self.old self.new }
+    {
+        let Some(slot) = self.slots.up(worker) else {
+            return Ok(());
+        };
+        let (object, call) = (slot.worker, slot.call);
+        if !says_running(notice) || self.objects.is_running(object) {
+            return self.note(Note::Stray { worker });
+        }
+        let name = slot.name.copy(self.alloc)?;
+        self.run(worker, object, name, call)
+    }
+
+    // A worker runs, of this slot's name: so does its object, and the call that waited for it settles.
+    fn run(
         &mut self,
         worker: WorkerKey,
-        bytes: &[u8],
-    ) -> Result<Vec<Message>, NoMemory>
-        requires { HasRoom self.old }
-        ensures messages { IfOk result (λ ms. ms.items ≡ map message_of (frames (stream_of self.old.streams worker ++ bytes.now))) }
-        ensures kept { OnOk result (self.new ≡ kept_bytes self.old worker bytes.now) }
-        ensures slots { self.new.slots ≡ self.old.slots }
+        object: Serial,
+        name: Name,
+        call: Option<CallKey>,
+    ) -> Result<(), NoMemory>
+        ensures ok { OnOk result ((x : Rattle.host_core.specs.State.Slot) → x.key ≡ worker → x.worker ≡ object → x.name ≡ name → x.call ≡ call → Moves (ran x) self.old self.new) }
+        ensures shown { ShowsTheSame self.old self.new }
     {
-        self.streams.take_in(self.alloc, worker, bytes)
-    }
-
-    /// Whether a worker is up.
-    pub(crate) fn is_up(&self, worker: WorkerKey) -> bool
-        ensures { result ≡ is_up self.now worker }
-    {
-        self.slots.is_up(worker)
-    }
-
-    /// Whether the start of a worker is wanted and was not tried yet.
-    pub(crate) fn is_wanted(&self, worker: WorkerKey) -> bool
-        ensures { result ≡ is_wanted self.now worker }
-    {
-        self.slots.is_wanted(worker)
-    }
-
-    /// The latest worker of the slot at a place, from 0, and whether it was started.
-    pub(crate) fn shown_at(&self, place: usize) -> Option<(WorkerKey, bool)>
-        ensures { result ≡ option_map shown (slice_get self.now.slots place) }
-    {
-        self.slots.shown_at(place)
-    }
-
-    /// Whether an entry is of a kind that is not built yet.
-    pub(crate) fn is_unbuilt(&self, entry: &Entry) -> bool
-        requires { HasRoom self.now }
-        ensures { result ≡ is_unbuilt self.now entry.now }
-    {
-        match entry {
-            Entry::Call { op, .. } => is_unbuilt_op(op),
-            Entry::Spawned { worker, up } => !*up && self.slots.is_wanted(*worker),
-            Entry::Chunk { worker, bytes } => {
-                self.slots.is_up(*worker) && self.streams.breaks(*worker, bytes.as_slice())
-            }
+        self.objects.set_running(object);
+        self.slots.settle_call(worker);
+        self.note(Note::Running {
+            name,
+            generation: worker.generation,
+        })?;
+        match call {
+            Some(call) => self.note(Note::Settled {
+                call,
+                outcome: Outcome::Done,
+            }),
+            None => Ok(()),
         }
     }
 }
 
-/// The one set of options that a Router may have.
-const BUILT_OPTIONS: &str = "{\"mediaCodecs\":[]}";
-
-// Whether a call is of a kind that is not built yet.
-fn is_unbuilt_op(op: &Op) -> bool
-    ensures { result ≡ is_unbuilt_op op.now }
+// Whether a notice says that a worker is running.
+fn says_running(notice: &Notice) -> bool
+    ensures { result ≡ says_running (notice_view notice.now) }
 {
-    match op {
-        Op::Worker { budget, .. } => *budget != 0,
-        Op::Router { options, .. } => options.as_str() != BUILT_OPTIONS,
-    }
-}
-
-// The id of an object is made of the host's seed and the object's serial.
-fn object_id(seed: u64, serial: u32) -> Id
-    requires seed { seed < 2 ^ 60 }
-    requires serial { 1 ≤ serial }
-    ensures { result ≡ object_id seed serial }
-{
-    Id::of(seed, serial)
+    notice.target.as_str() == "worker" && notice.event.as_str() == "running"
 }

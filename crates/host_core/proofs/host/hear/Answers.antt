@@ -1,7 +1,23 @@
-use Rattle.host_core.specs.State.{stream_of}
-use Rattle.host_core.proofs.HostLemmas.{unsent-chunk, on_ok_any}
+use Rattle.std.proofs.Common.{OnOk, sym, subst}
+use Rattle.ms_base.specs.declared.entry.Entry.{Entry}
+use Rattle.host_core.specs.Run.{after}
+use Rattle.host_core.specs.State.{State}
+use Rattle.host_core.specs.Tables.{IsHeld}
+use Rattle.host_core.proofs.HostLemmas.{held-call, held-start}
+use Rattle.host_core.proofs.ReadersLemmas.{on_ok}
 use Rattle.host_core.proofs.host.hear.Goals as goal
 
-pub returns-in-Chunk-clause-sent : goal.returns-in-Chunk-clause-sent
-returns-in-Chunk-clause-sent c =
-    on_ok_any c.hear_chunk.result _ (λ w. unsent-chunk c.args.tables.now c.args.entry.now c.in-Chunk.worker c.in-Chunk.bytes (stream_of c.args.sent.now w) w c.in-Chunk.is)
+pub returns-in-Call-clause-ok : goal.returns-in-Call-clause-ok
+returns-in-Call-clause-ok c =
+    subst
+    (λ (e : Entry). OnOk c.call.result ((s : State) → IsHeld s c.args.tables.now c.args.readers.now → IsHeld (after s e) c.call.new.self c.args.readers.now))
+    (sym c.in-Call.is)
+    (on_ok c.call.result _ _ (held-call c.in-Call.lane c.in-Call.op c.args.tables.now c.call.new.self c.args.readers.now) c.call.ensures.ok)
+
+pub returns-in-Spawned-clause-ok : goal.returns-in-Spawned-clause-ok
+returns-in-Spawned-clause-ok c =
+    subst
+    (λ (e : Entry). OnOk c.hear_start.result ((s : State) → IsHeld s c.args.tables.now c.args.readers.now → IsHeld (after s e) c.hear_start.new.tables c.args.readers.now))
+    (sym c.in-Spawned.is)
+    (on_ok c.hear_start.result _ _ (held-start c.in-Spawned.worker c.in-Spawned.up c.args.tables.now c.hear_start.new.tables c.args.readers.now)
+    c.hear_start.ensures.ok)

@@ -1,31 +1,43 @@
-use Rattle.std.proofs.Common.{◌≡◌, ◌++◌, [], ◌∷◌, length, false, ap, sym, ◌∙◌}
-use Rattle.ms_base.specs.declared.keys.WorkerKey.{WorkerKey}
-use Rattle.host_core.specs.Apply.{size_with}
-use Rattle.host_core.specs.Kept.{Goes, kept_step}
-use Rattle.host_core.specs.Run.{Journal, notes_of, sent_of}
-use Rattle.host_core.specs.State.{stream_of}
-use Rattle.host_core.proofs.HostLemmas.{room-run, is_run-next, goes-on}
+use Rattle.std.proofs.Common.{◌≡◌, ◌+◌, List, [], ◌∷◌, ◌++◌, length, false, sym, ap, ◌∙◌}
+use Rattle.ms_base.specs.declared.entry.Entry.{Entry}
+use Rattle.journal_text.specs.Written.{entry_line, journal_size}
+use Rattle.host_core.specs.Apply.{is_unbuilt, size_with}
+use Rattle.host_core.specs.Run.{HostView, with_entry, after, state_of, notes_of}
+use Rattle.host_core.specs.Tables.{IsHeld}
+use Rattle.host_core.proofs.RunLemmas.{journal, run-room, run-more, built-whole, goes-on}
 use Rattle.host_core.proofs.host.Host.enter.Goals as goal
 
-pub hear-requires : goal.hear-requires
-hear-requires c =
+pub hear-requires-clause-room : goal.hear-requires-clause-room
+hear-requires-clause-room c =
     let h = c.self.inside in
-    room-run h.seed h.journal.items h.spent h.size h.tables h.sent h.notes (ap (λ (j : Journal). j.spent) c.self.view_is ∙ c.requires.open) c.self.invariant
+    let unspent : h.spent ≡ false = ap (λ (x : HostView). x.spent) c.self.view_is ∙ c.requires.open in
+    let j = journal h.seed h.journal.items in
+    run-room j h.spent h.size h.tables h.readers (c.draws_are_bounded.ensures.draws j) unspent c.self.invariant
+
+pub hear-requires-clause-whole : goal.hear-requires-clause-whole
+hear-requires-clause-whole c =
+    let h = c.self.inside in
+    let unspent : h.spent ≡ false = ap (λ (x : HostView). x.spent) c.self.view_is ∙ c.requires.open in
+    built-whole c.frames_of_a_cut_stream.ensures.broken c.args.entry (state_of (journal h.seed h.journal.items)) h.tables h.readers (c.self.invariant.held unspent)
+    (ap (λ (x : HostView). is_unbuilt (state_of x.journal) c.args.entry) c.self.view_is ∙ c.requires.built)
 
 pub invariant_of-self-2 : goal.invariant_of-self-2
 invariant_of-self-2 c =
     let h = c.self.inside in
-    let unspent : h.spent ≡ false = ap (λ (j : Journal). j.spent) c.self.view_is ∙ c.requires.open in
-    let grown = c.requires.size ∙ ap (λ (j : Journal). size_with j c.args.entry) (sym c.self.view_is) in
-    let goes : Goes c.hear.new.tables h.notes c.hear.new.notes (kept_step h.tables c.args.entry) = goes-on _ c.hear.result c.is_err-2.result c.is_err-2.ensures.value c.if-is_err-2.false c.hear.ensures.ok in
-    let out : (w : WorkerKey) → stream_of c.hear.new.sent w ≡ stream_of h.sent w ++ sent_of (kept_step h.tables c.args.entry).1 w = goes-on _ c.hear.result c.is_err-2.result c.is_err-2.ensures.value c.if-is_err-2.false c.hear.ensures.sent in
-    is_run-next h.seed h.journal.items c.push_reserved.new.self.items c.args.entry h.spent h.size h.tables c.hear.new.tables h.sent c.hear.new.sent h.notes c.hear.new.notes
-    c.args.size unspent (c.push_reserved.ensures.items ∙ ap (λ es. es ++ c.args.entry ∷ []) c.reserve.ensures.items) c.self.invariant grown c.requires.limit goes out
+    let s = state_of (journal h.seed h.journal.items) in
+    let unspent : h.spent ≡ false = ap (λ (x : HostView). x.spent) c.self.view_is ∙ c.requires.open in
+    let longer = c.push_reserved.ensures.items ∙ ap (λ (es : List Entry). es ++ c.args.entry ∷ []) c.reserve.ensures.items in
+    let grown : c.args.size ≡ journal_size h.seed h.journal.items + length (entry_line c.args.entry) =
+    c.requires.size ∙ ap (λ (x : HostView). size_with x.journal c.args.entry) (sym c.self.view_is) in
+    let held : IsHeld (after s c.args.entry) c.hear.new.tables c.hear.new.readers =
+    goes-on _ c.hear.result c.is_err-2.result c.is_err-2.ensures.value c.if-is_err-2.false c.hear.ensures.ok s (c.self.invariant.held unspent) in
+    run-more h.seed h.journal.items c.push_reserved.new.self.items c.args.entry h.spent c.args.size c.hear.new.tables c.show.new.self c.hear.new.readers
+    c.self.invariant.seed_fits longer grown c.requires.limit held c.show.ensures
 
 pub returns-clause-end_note : goal.returns-clause-end_note
 returns-clause-end_note c =
-    let notes = (invariant_of-self-2 c).notes_are in
-    let longer = c.push_reserved.ensures.items ∙ ap (λ es. es ++ c.args.entry ∷ []) c.reserve.ensures.items in
-    let all : c.hear.new.notes ≡ notes_of c.self.inside.seed (c.self.inside.journal.items ++ c.args.entry ∷ []) = notes ∙ ap (notes_of c.self.inside.seed) longer in
-    let seen : c.hear.new.notes ≡ notes_of c.args.self.now.seed (c.args.self.now.entries ++ c.args.entry ∷ []) = all ∙ ap (λ (j : Journal). notes_of j.seed (j.entries ++ c.args.entry ∷ [])) c.self.view_is in
-    c.len.ensures ∙ ap length seen
+    let h = c.self.inside in
+    let longer = c.push_reserved.ensures.items ∙ ap (λ (es : List Entry). es ++ c.args.entry ∷ []) c.reserve.ensures.items in
+    let all : c.hear.new.tables.notes ≡ notes_of (journal h.seed (h.journal.items ++ c.args.entry ∷ [])) =
+    (invariant_of-self-2 c).notes_are ∙ ap (λ (es : List Entry). notes_of (journal h.seed es)) longer in
+    c.len.ensures ∙ ap length (all ∙ ap (λ (x : HostView). notes_of (with_entry x.journal c.args.entry)) c.self.view_is)

@@ -1,5 +1,8 @@
-use Rattle.host_core.proofs.HostLemmas.{is_run-new}
+use Rattle.host_core.proofs.RunLemmas.{run-new}
 use Rattle.host_core.proofs.host.Host.new.Goals as goal
 
 pub invariant_of-result : goal.invariant_of-result
-invariant_of-result c = rw (c.new.ensures.items, c.head_size.ensures, c.new-2.ensures, c.new-3.ensures, c.new-4.ensures) (is_run-new c.args.seed c.requires)
+invariant_of-result c =
+    rw c.new.ensures.items
+    (run-new c.args.seed c.head_size.result c.new-2.result c.new-3.result c.requires c.head_size.ensures.value c.head_size.ensures.few c.new-2.ensures.kept
+    c.new-2.ensures.shown c.new-3.ensures)

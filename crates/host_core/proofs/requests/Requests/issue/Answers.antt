@@ -1,14 +1,21 @@
-use Rattle.std.proofs.Common.{rules}
-use Rattle.host_core.proofs.RequestsLemmas.{indexed-more, indexed-roomy}
+use Rattle.std.proofs.Common.{◌+◌, ◌==◌, ◌&&◌, ℕ, Option, Some, cond, ap, ◌∙◌}
+use Rattle.std.specs.HashMap as hash
+use Rattle.ms_base.specs.declared.keys.WorkerKey.{WorkerKey}
+use Rattle.host_core.specs.LookUps.{same_channel, waiting_at, issued_by}
+use Rattle.host_core.specs.State.{Request, same_worker}
+use Rattle.host_core.proofs.IndexLemmas.{count-more}
 use Rattle.host_core.proofs.requests.Requests.issue.Goals as goal
 
-pub invariant_of-self-2 : goal.invariant_of-self-2
-invariant_of-self-2 c =
-    let items = c.self.inside.items.items in
-    let request = c.args.request in
-    let roomy = indexed-roomy items c.self.inside.places c.self.inside.names c.make_room.new.self c.self.invariant c.make_room.ensures.counts in
-    rw (c.in_ok-push.ensures.items, c.reserve.ensures.items)
-    (indexed-more items c.self.inside.places c.add.new.self c.make_room.new.self c.raise.new.self request c.len.result roomy
-    (rw c.self.view_is c.requires.next) c.requires.open (search rules)
-    c.in_ok-add.ensures.ok
-    (rw (← c.as_slice-2.ensures.value) c.raise.ensures))
+pub returns-clause-waiting : goal.returns-clause-waiting
+returns-clause-waiting c = λ w i.
+    c.in_ok-insert-2.ensures.updates.0 (w.slot, w.generation, i)
+    ∙ ap (λ (r : Request). cond (same_worker r.channel w && (r.id == i)) (Some c.args.request) (waiting_at c.args.self.now w i)) c.request.view_is
+
+pub returns-clause-issued : goal.returns-clause-issued
+returns-clause-issued c =
+    let old : WorkerKey → Option ℕ = λ w. hash.get same_channel c.args.self.now.issued (w.slot, w.generation) in
+    let new : WorkerKey → Option ℕ = λ w. hash.get same_channel c.insert.new.self (w.slot, w.generation) in
+    λ w.
+    count-more old new c.request.inside.channel (c.issued-before.result + 1) (λ v. c.in_ok-insert.ensures.updates.0 (v.slot, v.generation))
+    (ap (λ n. n + 1) c.issued-before.ensures) w
+    ∙ ap (λ (r : Request). cond (same_worker r.channel w) (issued_by c.args.self.now w + 1) (issued_by c.args.self.now w)) c.request.view_is

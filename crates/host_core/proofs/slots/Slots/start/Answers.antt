@@ -1,5 +1,5 @@
 use Rattle.std.proofs.Common.{rules}
-use Rattle.host_core.specs.Step.{up_if}
+use Rattle.host_core.specs.State.{up_if}
 use Rattle.host_core.proofs.Mapped.{mapped-next}
 use Rattle.host_core.proofs.slots.Slots.start.Goals as goal
 

@@ -1,5 +1,5 @@
 use Rattle.std.proofs.Common.{◌≡◌, ◌++◌, map, take, drop}
-use Rattle.host_core.specs.Step.{up_if}
+use Rattle.host_core.specs.State.{up_if}
 use Rattle.host_core.proofs.slots.Slots.start.Given as goal
 
 -- those behind it are as they were

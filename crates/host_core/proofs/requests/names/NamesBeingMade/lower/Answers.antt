@@ -1,8 +1,8 @@
 use Rattle.std.proofs.Common.{rules, ◌-◌}
-use Rattle.host_core.proofs.IndexLemmas.{count-changed}
+use Rattle.host_core.proofs.IndexLemmas.{count-lowered}
 use Rattle.host_core.proofs.requests.names.NamesBeingMade.lower.Goals as goal
 
 pub returns-in-Some : goal.returns-in-Some
 returns-in-Some c =
-    count-changed _ c.args.name.now c.args.self.now.counts (c.get_mut.follows.lender (c.in-Some.count.now - 1)) (c.in-Some.count.now - 1)
-    ((c.get_mut.follows.holds (c.in-Some.count.now - 1)).3 (search rules)) (λ n. n - 1) (search rules)
+    count-lowered _ c.args.name.now c.args.self.now.counts (c.get_mut.follows.lender c.saturating_sub.result) c.saturating_sub.result
+    ((c.get_mut.follows.holds c.saturating_sub.result).3 (search rules)) (search rules)

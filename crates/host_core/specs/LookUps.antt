@@ -1,0 +1,97 @@
+-- What the parts of the code's tables tell: the look-ups by which they are tied to what the host knows.
+-- This project's own.
+use Rattle.std.specs.Option.{option_map_or}
+use Rattle.std.specs.Prelude.{◌≡◌, ◌≤◌, ◌<◌, ◌+◌, ℕ, List, [], length, map, find, Bool, true, false, if◌then◌else◌, Option, Some, None, Vec, vec_capacity, unwrap_or, nat_eq, ◌&&◌, ⊤}
+use Rattle.std.specs.Cmp.Lexicographic.{slice_cmp}
+use Rattle.std.specs.Ordering.{nat_cmp}
+use Rattle.std.specs.BTreeMap.{get_by, get}
+use Rattle.std.specs.HashMap as hash
+use Rattle.ms_base.specs.declared.keys.WorkerKey.{WorkerKey}
+use Rattle.channel_frames.specs.Frames.{max_payload}
+use Rattle.transcript.specs.declared.note.Note.{Note}
+use Rattle.transcript.specs.declared.note.Note.TheVariants as note
+use Rattle.host_core.specs.State.{Object, Request, Slot, Phase, Wanted, Up, same_worker, numbered, has_name}
+use Rattle.host_core.specs.declared.calls.Calls.{Calls}
+use Rattle.host_core.specs.declared.readers.Reader.{Reader}
+use Rattle.host_core.specs.declared.readers.Readers.{Readers}
+use Rattle.host_core.specs.declared.requests.Requests.{Requests}
+use Rattle.host_core.specs.declared.requests.names.NamesBeingMade.{NamesBeingMade}
+use Rattle.host_core.specs.declared.slots.Shown.{Shown}
+use Rattle.host_core.specs.declared.slots.Phase.{Phase as CodePhase}
+use Rattle.host_core.specs.declared.slots.Phase.TheVariants as code_phase
+
+abbrev pub one_if : Bool → ℕ
+one_if b = if b then 1 else 0
+
+-- ---- calls: how many a lane has made
+abbrev pub counted : Calls → ℕ → ℕ
+counted c lane = unwrap_or (get nat_cmp c.counts lane) 0
+
+-- ---- objects
+pub record ObjectsView : Type 0 where
+  pub objects : List Object
+  -- the serial that is drawn next
+  pub next : ℕ
+
+-- the serial of an object was drawn, and no object has it yet
+pub record IsFresh (o : ObjectsView) (object : Object) : Type 0 where
+  pub from_one : 1 ≤ object.serial.0
+  pub drawn : object.serial.0 < o.next
+  pub none : numbered o.objects object.serial ≡ None
+
+-- ---- requests
+abbrev pub same_channel_id : ℕ × ℕ × ℕ → ℕ × ℕ × ℕ → Bool
+same_channel_id a b = nat_eq a.0 b.0 && nat_eq a.1 b.1 && nat_eq a.2 b.2
+
+abbrev pub same_channel : ℕ × ℕ → ℕ × ℕ → Bool
+same_channel a b = nat_eq a.0 b.0 && nat_eq a.1 b.1
+
+-- the request that a response of this id settles
+abbrev pub waiting_at : Requests → WorkerKey → ℕ → Option Request
+waiting_at r w id = hash.get same_channel_id r.waiting (w.slot, w.generation, id)
+
+abbrev pub issued_by : Requests → WorkerKey → ℕ
+issued_by r w = unwrap_or (hash.get same_channel r.issued (w.slot, w.generation)) 0
+
+abbrev pub count_of : NamesBeingMade → List ℕ → ℕ
+count_of n name = unwrap_or (get_by (λ k. slice_cmp nat_cmp name k.items) n.counts) 0
+
+abbrev pub made_by : Requests → List ℕ → ℕ
+made_by r name = count_of r.names name
+
+abbrev pub makes_named : List ℕ → Option Request → Bool
+makes_named name None = false
+makes_named name (Some r) = has_name name r.makes
+
+-- ---- slots
+abbrev pub phase_of : CodePhase → Phase
+phase_of code_phase.Wanted = Wanted
+phase_of code_phase.Up = Up
+
+abbrev pub shown_of : Slot → WorkerKey × Phase
+shown_of x = (x.key, x.phase)
+
+abbrev pub shown_view : Shown → WorkerKey × Phase
+shown_view x = (x.key, phase_of x.phase)
+
+pub record SlotsView : Type 0 where
+  pub slots : List Slot
+  pub shown : List (WorkerKey × Phase)
+
+-- no more are shown than there are, and there is room to show them all
+pub record MayShow {Y : Type 0} (slots : List Slot) (shown : Vec Shown Y) (fresh : Bool) : Type 0 where
+  pub fewer : length shown.items ≤ length slots
+  pub room : length slots ≤ vec_capacity shown
+  pub same : fresh ≡ true → map shown_view shown.items ≡ map shown_of slots
+
+-- ---- readers
+abbrev pub unread_in : Option Reader → List ℕ
+unread_in o = option_map_or (λ (x : Reader). x.reader.unread) o []
+
+abbrev pub unread_of : Readers → WorkerKey → List ℕ
+unread_of r w = unread_in (find (λ x. same_worker x.worker w) r.items.items)
+
+-- ---- notes: a request's payload is within its limit
+abbrev pub IsShort : Note → Type 0
+IsShort (note.Sent worker payload) = length payload ≤ max_payload
+IsShort other = ⊤
