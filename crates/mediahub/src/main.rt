@@ -20,10 +20,10 @@ use std::process::ExitCode;
 fn main(rt: HostRuntime) -> ExitCode {
     let args = match std::env::args(&rt) {
         Ok(args) => args,
-        Err(fault) => return ExitCode::from(status_without_words(fault.kind())),
+        Err(fault) => return exit_code(status_without_words(fault.kind())),
     };
     let Ok(words) = command_words(rt.alloc(), args) else {
-        return ExitCode::from(9);
+        return exit_code(Status::OUT_OF_MEMORY);
     };
     let mut source = Input::new(rt.stdin());
     let mut sink = Output::new(rt.stdout());
@@ -51,13 +51,13 @@ fn command_words(alloc: Global, args: Args) -> Result<Vec<Text>, AllocError>
 }
 
 // The status where the words can't be had: out of memory, or a word that is no text and so no command's.
-fn status_without_words(kind: ErrorKind) -> u8
-    ensures memory { (result ≡ 9) ↔ (kind ≡ ErrorKind.OutOfMemory) }
-    ensures no_other { (result ≡ 9) ⊎ (result ≡ 2) }
+fn status_without_words(kind: ErrorKind) -> Status
+    ensures memory { (result ≡ Status.OUT_OF_MEMORY) ↔ (kind ≡ ErrorKind.OutOfMemory) }
+    ensures no_other { (result ≡ Status.OUT_OF_MEMORY) ⊎ (result ≡ Status.NO_COMMAND) }
 {
     match kind {
-        ErrorKind::OutOfMemory => 9,
-        _ => 2,
+        ErrorKind::OutOfMemory => Status::OUT_OF_MEMORY,
+        _ => Status::NO_COMMAND,
     }
 }
 

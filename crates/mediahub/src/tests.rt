@@ -2,7 +2,7 @@ ghost use Rattle.std.specs.Prelude.{◌≤◌, length};
 
 use crate::input::Input;
 use crate::output::Output;
-use host_core::entry_size;
+use journal_text::entry_size;
 use ms_base::{Bytes, Entry, Text, WorkerKey};
 use ms_devices::{Failed, MemSink, MemSource, Sink, Source};
 use run_top::{Status, media_top};
@@ -149,7 +149,7 @@ fn notes_what_is_unexpected_and_waits_for_a_payload_at_the_limit(
     let mut source = MemSource::new(alloc, RUNNING, Vec::new(alloc))?;
     let mut sink = MemSink::new(alloc, Vec::new(alloc))?;
     let status = media_top(alloc, words.as_slice(), &mut source, &mut sink);
-    assert_eq!(rt; status, Status(0));
+    assert_eq!(rt; status, Status::DONE);
     assert_eq!(rt; sink.told().unwrap_or(b"no more told"), RUNNING_LINES);
     Ok(())
 }

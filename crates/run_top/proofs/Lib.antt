@@ -1,9 +1,2 @@
-pub mod Numbers
-pub mod Pieces
-pub mod Shapes
-pub mod Texts
-pub mod Sizes
-pub mod ReplayLemmas
 pub mod ReadLemmas
-pub mod WellFormed
-pub mod Back
+pub mod ReplayLemmas

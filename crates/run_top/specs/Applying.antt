@@ -2,9 +2,9 @@
 use Rattle.std.specs.Prelude.{◌≡◌, ℕ, Option, Some, ⊤}
 use Rattle.run_top.specs.declared.apply.StopFault.{StopFault}
 use Rattle.run_top.specs.declared.apply.StopFault.TheVariants as stop
-use Rattle.run_top.specs.Gives.{told_line}
+use Rattle.journal_text.specs.Gives.{told_line}
 
--- the first entry that is not built is told by its line; want of memory may come anywhere
+-- the first entry that is not built is told by its line; memory may run out anywhere
 abbrev pub IsStopped : Option ℕ → StopFault → Type 0
 IsStopped first (stop.Unbuilt line) = (n : ℕ) × (first ≡ Some n) × (line ≡ told_line n)
 IsStopped first stop.NoMemory = ⊤

@@ -1,8 +1,6 @@
-pub mod Gives
-pub mod Journal
-pub mod JournalRows
-pub mod Written
-pub mod Replay
-pub mod Reading
-pub mod Applying
 pub mod Answers
+pub mod Applying
+pub mod Command
+pub mod Reading
+pub mod Replay
+pub mod StatusRows

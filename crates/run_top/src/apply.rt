@@ -1,13 +1,16 @@
 ghost use Rattle.std.specs.Prelude.{◌≡◌, ◌<◌, ◌≤◌, ◌^◌, [], IfOk, IfErr, OnOk, false, None, flat_map};
-ghost use Rattle.host_core.specs.JournalText.{journal_size, max_journal};
-ghost use Rattle.host_core.specs.Lines.{note_line, transcript_of};
+ghost use Rattle.journal_text.specs.Written.{journal_size, max_journal};
+ghost use Rattle.transcript.specs.Lines.{note_line};
+ghost use Rattle.host_core.specs.Run.{transcript_of};
 ghost use Rattle.host_core.specs.State.{start};
 ghost use Rattle.run_top.specs.Replay.{first_unbuilt};
 ghost use Rattle.run_top.specs.Applying.{IsStopped};
 
-use host_core::{Host, Note, note_line};
+use host_core::Host;
+use journal_text::journals_grow_by_lines;
 use ms_base::{ApplyFault, Bytes, Entry, NoMemory};
 use std::alloc::Global;
+use transcript::{Note, note_line};
 
 /// Why not all entries of a journal were applied.
 #[derive(Clone, Copy, Debug, PartialEq, Eq)]
@@ -21,7 +24,7 @@ pub(crate) enum StopFault {
 pub(crate) fn transcript(alloc: Global, seed: u64, entries: Vec<Entry>) -> Result<Bytes, StopFault>
     requires seed { seed < 2 ^ 60 }
     requires limit { journal_size seed entries.items ≤ max_journal }
-    ensures ok { IfOk result (λ lines. lines ≡ transcript_of seed entries.items) }
+    ensures ok { IfOk result (λ lines. lines ≡ transcript_of (record { seed = seed; entries = entries.items })) }
     ensures built { OnOk result (first_unbuilt (start seed) 2 entries.items ≡ None) }
     ensures err { IfErr result (IsStopped (first_unbuilt (start seed) 2 entries.items)) }
 {
@@ -37,12 +40,14 @@ pub(crate) fn transcript(alloc: Global, seed: u64, entries: Vec<Entry>) -> Resul
 
 // Applies the entries, one after another.
 fn apply_all(host: &mut Host, entries: Vec<Entry>) -> Result<(), StopFault>
-    requires new { host.old ≡ record { seed = host.old.seed; entries = []; spent = false } }
-    requires limit { journal_size host.old.seed entries.items ≤ max_journal }
-    ensures ok { OnOk result (host.new ≡ record host.old { entries = entries.items }) }
-    ensures built { OnOk result (first_unbuilt (start host.old.seed) 2 entries.items ≡ None) }
-    ensures err { IfErr result (IsStopped (first_unbuilt (start host.old.seed) 2 entries.items)) }
+    requires new { host.old ≡ record { journal = record { seed = host.old.journal.seed; entries = [] }; spent = false } }
+    requires limit { journal_size host.old.journal.seed entries.items ≤ max_journal }
+    ensures ok { OnOk result (host.new ≡ record { journal = record { seed = host.old.journal.seed; entries = entries.items }; spent = false }) }
+    ensures built { OnOk result (first_unbuilt (start host.old.journal.seed) 2 entries.items ≡ None) }
+    ensures err { IfErr result (IsStopped (first_unbuilt (start host.old.journal.seed) 2 entries.items)) }
 {
+    // A law: a journal within its limit never passes it on the way.
+    journals_grow_by_lines();
     let mut line = 2u32;
     for entry in entries {
         match host.apply(entry) {

@@ -2,16 +2,13 @@
 #![tactic(auto)]
 
 mod apply;
-mod journal;
+mod command;
 mod read;
 mod replay;
 mod status;
 mod top;
 
-pub use journal::{
-    JournalFault, journals_differ_by_text, read_journal, what_reads_has_a_seed,
-    what_reads_is_as_long, what_reads_is_well_formed, written_journals_read_back,
-};
+pub use command::{Command, command_of};
 pub use replay::replay_top;
 pub use status::Status;
 pub use top::media_top;

@@ -1,8 +1,8 @@
 ghost use Rattle.std.specs.Prelude.{◌≡◌, ◌⊎◌, ◌+◌, ◌≤◌, ◌<◌, [], length, IfOk, IfErr, OnOk, IsErrOf};
 ghost use Rattle.ms_devices.specs.Causes.{Rose};
 ghost use Rattle.ms_devices.specs.Told.{Tells};
-ghost use Rattle.host_core.specs.JournalText.{max_journal};
-ghost use Rattle.run_top.specs.Reading.{Moves, PassesLimit};
+ghost use Rattle.journal_text.specs.Written.{max_journal};
+ghost use Rattle.run_top.specs.Reading.{Moves};
 ghost use Rattle.run_top.specs.Replay.{ReadsFront, ReadsOnePast, StopsPastLimit};
 
 use ms_base::Bytes;
@@ -10,7 +10,7 @@ use ms_devices::Source;
 use std::alloc::Global;
 
 /// How many bytes the text of a journal may have.
-const MAX_JOURNAL: usize = host_core::MAX_JOURNAL as usize;
+const MAX_JOURNAL: usize = journal_text::MAX_JOURNAL as usize;
 
 /// How many bytes are read at once.
 const PIECE: usize = 65_536;
@@ -29,7 +29,6 @@ pub(crate) enum ReadFault {
 pub(crate) fn read_text<S: Source>(alloc: Global, source: &mut S) -> Result<Bytes, ReadFault>
     ensures ok { IfOk result (λ text. Tells (λ before now. (before ≡ text) × (now ≡ [])) (S.holds source.old) (S.holds source.new)) }
     ensures limit { IfOk result (λ text. length text ≤ max_journal) }
-    ensures long { IsErrOf result ReadFault.TooLong → Tells PassesLimit (S.holds source.old) (S.holds source.new) }
     ensures one_past { IsErrOf result ReadFault.TooLong → Tells ReadsOnePast (S.holds source.old) (S.holds source.new) }
     ensures failed { IsErrOf result ReadFault.Failed → Rose (S.faults source.old) (S.faults source.new) }
     ensures still { ¬ IsErrOf result ReadFault.Failed → S.faults source.new ≡ S.faults source.old }
@@ -61,7 +60,6 @@ fn fill<S: Source>(source: &mut S, place: &mut [u8], text: &mut Bytes) -> Result
     requires empty { text.old ≡ [] }
     ensures ok { OnOk result (Tells (λ before now. (before ≡ text.new) × (now ≡ [])) (S.holds source.old) (S.holds source.new)) }
     ensures limit { OnOk result (length text.new ≤ max_journal) }
-    ensures long { IsErrOf result ReadFault.TooLong → Tells PassesLimit (S.holds source.old) (S.holds source.new) }
     ensures one_past { IsErrOf result ReadFault.TooLong → Tells ReadsOnePast (S.holds source.old) (S.holds source.new) }
     ensures failed { IsErrOf result ReadFault.Failed → Rose (S.faults source.old) (S.faults source.new) }
     ensures still { ¬ IsErrOf result ReadFault.Failed → S.faults source.new ≡ S.faults source.old }

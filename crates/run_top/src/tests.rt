@@ -1,5 +1,6 @@
-use crate::{Status, media_top, read_journal, replay_top};
+use crate::{Status, media_top, replay_top};
 use host_core::Host;
+use journal_text::read_journal;
 use ms_base::{CallKey, Code, Entry, Name, Op, SlotLook, Text, Verdict, WorkerKey};
 use ms_devices::{MemSink, MemSource, Sink, Source};
 use std::alloc::Global;
@@ -85,38 +86,67 @@ fn replay_over<S: Source, K: Sink>(alloc: Global, source: &mut S, sink: &mut K) 
     replay_top(alloc, source, sink)
 }
 
+// The text with each chunk of the first worker replaced by one chunk for each of its bytes.
+fn in_single_bytes(alloc: Global, text: &[u8]) -> Result<Vec<u8>, Fail> {
+    let mut cut = Vec::new(alloc);
+    for line in text.split_inclusive(|byte| *byte == b'\n') {
+        match line.strip_prefix(b"chunk 1 1 ".as_slice()) {
+            None => cut.extend_from_slice(line)?,
+            Some(digits) => add_single_bytes(digits, &mut cut)?,
+        }
+    }
+    Ok(cut)
+}
+
+// A chunk for each two digits of a line.
+fn add_single_bytes(digits: &[u8], cut: &mut Vec<u8>) -> Result<(), Fail> {
+    for byte in digits.chunks_exact(2) {
+        cut.extend_from_slice(b"chunk 1 1 ")?;
+        cut.extend_from_slice(byte)?;
+        cut.push(b'\n')?;
+    }
+    Ok(())
+}
+
 #[test]
 fn makes_a_worker_and_a_router(rt: HostRuntime) -> Result<(), Fail> {
-    let (status, got) = replayed(rt.alloc(), JOURNAL, &[], &[])?;
-    assert_eq!(rt; status, Status(0));
-    assert_eq!(rt; got.as_slice(), LINES);
+    let cut = in_single_bytes(rt.alloc(), JOURNAL)?;
+    for text in [JOURNAL, cut.as_slice()] {
+        let (status, got) = replayed(rt.alloc(), text, &[], &[])?;
+        assert_eq!(rt; status, Status::DONE);
+        assert_eq!(rt; got.as_slice(), LINES);
+    }
     Ok(())
 }
 
 #[test]
 fn answers_each_text_with_its_status(rt: HostRuntime) -> Result<(), Fail> {
     let alloc = rt.alloc();
-    let table: [(&[u8], u8, &[u8]); 8] = [
-        (CALLS, 0, CALL_LINES),
-        (b"journal 1 7\n", 0, b""),
-        (b"", 3, b"bad 1 head\n"),
-        (b"journal 1 7", 3, b"bad 1 cut\n"),
-        (b"journal 1 7\nstop x\n", 3, b"bad 2 op\n"),
-        (b"journal 1 7\ncall 1 worker w 1\n", 3, b"bad 2 op\n"),
+    let table: [(&[u8], Status, &[u8]); 8] = [
+        (CALLS, Status::DONE, CALL_LINES),
+        (b"journal 1 7\n", Status::DONE, b""),
+        (b"", Status::BAD_TEXT, b"bad 1 head\n"),
+        (b"journal 1 7", Status::BAD_TEXT, b"bad 1 cut\n"),
+        (b"journal 1 7\nstop x\n", Status::BAD_TEXT, b"bad 2 op\n"),
+        (
+            b"journal 1 7\ncall 1 worker w 1\n",
+            Status::BAD_TEXT,
+            b"bad 2 op\n",
+        ),
         (
             b"journal 1 7\ncall 1 worker w 0\nspawned 1 1 failed\nstop\n",
-            3,
+            Status::BAD_TEXT,
             b"bad 4 op\n",
         ),
         (
             b"journal 1 7\ncall 1 worker w 0\nspawned 1 1 failed\n",
-            3,
+            Status::BAD_TEXT,
             b"bad 3 op\n",
         ),
     ];
     for (text, status, written) in table {
         let (ended, got) = replayed(alloc, text, &[], &[])?;
-        assert_eq!(rt; ended, Status(status), "{text:?}");
+        assert_eq!(rt; ended, status, "{text:?}");
         assert_eq!(rt; got.as_slice(), written, "{text:?}");
     }
     Ok(())
@@ -125,14 +155,14 @@ fn answers_each_text_with_its_status(rt: HostRuntime) -> Result<(), Fail> {
 #[test]
 fn tells_which_side_failed(rt: HostRuntime) -> Result<(), Fail> {
     let alloc = rt.alloc();
-    let table: [(&[u8], &[u32], &[u32], u8, &[u8]); 3] = [
-        (JOURNAL, &[2], &[], 4, b""),
-        (JOURNAL, &[], &[1], 5, LINES),
-        (b"", &[], &[1], 3, b"bad 1 head\n"),
+    let table: [(&[u8], &[u32], &[u32], Status, &[u8]); 3] = [
+        (JOURNAL, &[2], &[], Status::READ_FAILED, b""),
+        (JOURNAL, &[], &[1], Status::WRITE_FAILED, LINES),
+        (b"", &[], &[1], Status::BAD_TEXT, b"bad 1 head\n"),
     ];
     for (text, reads, writes, status, whole) in table {
         let (ended, got) = replayed(alloc, text, reads, writes)?;
-        assert_eq!(rt; ended, Status(status), "{text:?}");
+        assert_eq!(rt; ended, status, "{text:?}");
         // A write that fails adds half of its piece.
         assert_eq!(rt; got.as_slice(), &whole[..whole.len() / 2], "{text:?}");
     }
@@ -152,15 +182,15 @@ fn ended(alloc: Global, texts: &[&str]) -> Result<Status, Fail> {
 
 #[test]
 fn knows_one_command(rt: HostRuntime) -> Result<(), Fail> {
-    let table: [(&[&str], u8); 5] = [
-        (&["replay"], 0),
-        (&["replay", "now"], 2),
-        (&[], 2),
-        (&["Replay"], 2),
-        (&["worker"], 2),
+    let table: [(&[&str], Status); 5] = [
+        (&["replay"], Status::DONE),
+        (&["replay", "now"], Status::NO_COMMAND),
+        (&[], Status::NO_COMMAND),
+        (&["Replay"], Status::NO_COMMAND),
+        (&["worker"], Status::NO_COMMAND),
     ];
     for (texts, status) in table {
-        assert_eq!(rt; ended(rt.alloc(), texts)?, Status(status), "{texts:?}");
+        assert_eq!(rt; ended(rt.alloc(), texts)?, status, "{texts:?}");
     }
     Ok(())
 }

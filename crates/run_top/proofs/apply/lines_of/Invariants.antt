@@ -1,5 +1,5 @@
 use Rattle.std.proofs.Common.{◌≡◌, take, flat_map}
-use Rattle.host_core.specs.Lines.{note_line}
+use Rattle.transcript.specs.Lines.{note_line}
 use Rattle.run_top.proofs.apply.lines_of.Given as goal
 
 -- the lines of the notes so far

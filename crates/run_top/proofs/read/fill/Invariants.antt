@@ -1,6 +1,6 @@
 use Rattle.std.proofs.Common.{◌≡◌, ◌+◌, ◌-◌, ◌≤◌, length}
 use Rattle.ms_devices.specs.Told.{Tells}
-use Rattle.host_core.specs.JournalText.{max_journal}
+use Rattle.journal_text.specs.Written.{max_journal}
 use Rattle.run_top.specs.Reading.{Moves}
 use Rattle.run_top.proofs.read.fill.Given as goal
 
