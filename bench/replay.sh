@@ -6,14 +6,8 @@
 # and more than 2 is more than a journal may have. RUNS is 3 by default. A run that takes more than LIMIT seconds, 300 by default, is
 # ended.
 # It needs python3 and GNU time as /usr/bin/time, and some 400 MB in the temporary directory at SCALE 1.
-set -eu
-top=$(cd "$(dirname "$0")/.." && pwd)
-for tool in python3 /usr/bin/time; do
-    command -v "$tool" >/dev/null || { echo "bench/replay.sh: $tool is missing" >&2; exit 1; }
-done
+. "$(dirname "$0")/scaffold.sh"
+needs python3 /usr/bin/time
 # With no words the program reads nothing and ends with status 2.
 "$top/mediahub" </dev/null || [ $? = 2 ] || exit 1
-work=$(mktemp -d)
-trap 'rm -rf "$work"' EXIT
-trap 'exit 1' HUP INT TERM
-python3 "$top/bench/replay_main.py" "$top/crates/mediahub/out/mediahub" "$work" "${1:-1}" "${2:-3}" "${3:-300}"
+python3 "$bench/replay/main.py" "$top/crates/mediahub/out/mediahub" "$work" "${1:-1}" "${2:-3}" "${3:-300}"

@@ -1,5 +1,6 @@
-// Loaded before a program's own libraries, it makes the allocation FAIL_ALLOC of the process fail, counted from 1, and with FAIL_ALLOC_REST
-// each later one too. At the end it writes the number of all allocations into the file FAIL_ALLOC_TOTAL.
+// Loaded before a program's own libraries, it makes the allocation FAIL_ALLOC of the process
+// fail, counted from 1, and with FAIL_ALLOC_REST each later one too. At the end it writes the
+// number of all allocations into the file FAIL_ALLOC_TOTAL.
 #include <errno.h>
 #include <stdbool.h>
 #include <stdio.h>

@@ -1,11 +1,14 @@
 #!/bin/sh
-# Shows what becomes of a want of memory. Each test of a crate, and the program on each journal in examples/, runs with its first
-# allocation failing, then with its second, and so on to its last. A larger journal is replayed with less and less room.
-# - A test compares answers as they are with ample memory, so it may fail, but then it tells that memory was wanted, or that an object
-#   in memory tells its bytes no more. Each other ending is printed, to be looked at; `rt try --test --fail-alloc N` shows one by itself.
-# - The program ends with status 9 and no output, or with the status and output that it has with ample memory; so too where all later
-#   allocations fail as well.
-# Usage: checks/fail_alloc.sh [CRATE..]. With no crate, those whose tests allocate, and then the program.
+# Shows what becomes of a want of memory. Each test of a crate, and the program on each journal in
+# examples/, runs with its first allocation failing, then with its second, and so on to its last.
+# A larger journal is replayed with less and less room.
+# - A test compares answers as they are with ample memory, so it may fail, but then it tells that
+#   memory was wanted, or that an object in memory tells its bytes no more. Each other ending is
+#   printed, to be looked at; `rt try --test --fail-alloc N` shows one by itself.
+# - The program ends with status 9 and no output, or with the status and output that it has with
+#   ample memory; so too where all later allocations fail as well.
+# Usage: checks/fail_alloc.sh [CRATE..]. With no crate, each whose tests allocate, and then the
+# program.
 # It needs clang, and the kit's rt to build the tests and the program, which proves them.
 set -u
 top=$(cd "$(dirname "$0")/.." && pwd) || exit 1
@@ -17,22 +20,31 @@ trap 'rm -rf "$work"' EXIT
 trap 'exit 1' HUP INT TERM
 clang -O2 -shared -fPIC -o "$work/fail_alloc.so" "$top/checks/fail_alloc.c" || exit 1
 wrong=0
-# How a test tells that memory was wanted, and the bytes of "no more told", which stand for what an object in memory tells no more.
+# How a test tells that memory was wanted, and the bytes of "no more told", which stand for what an
+# object in memory tells no more.
 wanted_form='NoMemory|AllocError|AllocFailed|Status\(9\)'
 untold_form='left: \[110, 111, 32, 109, 111, 114, 101, 32, 116, 111, 108, 100\]'
 
-# with NUMBER COMMAND..: the command, with that allocation failing; it tells the number of all in $work/total.
+# with NUMBER COMMAND..: the command, with that allocation failing. The number of all is in
+# $work/total then.
 with() {
     number=$1
     shift
     env LD_PRELOAD="$work/fail_alloc.so" FAIL_ALLOC="$number" FAIL_ALLOC_TOTAL="$work/total" "$@"
 }
 
+row() {
+    printf '%-12s %-72s %6s %6s %6s %6s\n' "$@"
+}
+
 # tests CRATE: a line for each of its tests, and each ending of another form behind it.
 tests() {
     out=$top/crates/$1/out
     mkdir -p "$out"
-    (cd "$top/crates/$1" && rt test) >"$out/test.log" 2>&1 || { echo "fail_alloc: the tests of $1 fail; see $out/test.log"; exit 1; }
+    (cd "$top/crates/$1" && rt test) >"$out/test.log" 2>&1 || {
+        echo "fail_alloc: the tests of $1 fail; see $out/test.log"
+        exit 1
+    }
     for name in $("$out/$1_tests" --list | sed -n 's/: test$//p'); do
         with 0 "$out/$1_tests" "$name" >/dev/null 2>&1
         total=$(cat "$work/total")
@@ -47,18 +59,23 @@ tests() {
             elif grep -qE "$wanted_form|$untold_form" "$work/told"; then
                 wanted=$((wanted + 1))
             else
-                printf 'status %s: %.150s\n' "$status" "$(tr -s '\n' ' ' <"$work/told")" >>"$work/others"
+                told=$(tr -s '\n' ' ' <"$work/told")
+                printf 'status %s: %.150s\n' "$status" "$told" >>"$work/others"
             fi
             number=$((number + 1))
         done
-        printf '%-12s %-72s %6d %6d %6d %6d\n' "$1" "${name#tests::}" "$total" "$passed" "$wanted" "$(wc -l <"$work/others")"
+        row "$1" "${name#tests::}" "$total" "$passed" "$wanted" "$(wc -l <"$work/others")"
         sort "$work/others" | uniq -c
     done
 }
 
-# ends_well STATUS: whether the program ended with this status and the transcript, or with 9 and nothing.
+# ends_well STATUS: whether the program ended with this status and the transcript, or with 9 and
+# nothing.
 ends_well() {
-    [ "$1" = 9 ] && [ ! -s "$work/got" ] || { [ "$1" = "$ample" ] && cmp -s "$work/got" "$work/transcript"; }
+    if [ "$1" = 9 ] && [ ! -s "$work/got" ]; then
+        return 0
+    fi
+    [ "$1" = "$ample" ] && cmp -s "$work/got" "$work/transcript"
 }
 
 # ended STATUS WHAT: counts an ending of the program, and tells a wrong one.
@@ -73,7 +90,13 @@ ended() {
     fi
 }
 
-# allocations JOURNAL: the program on it, with each allocation failing by itself and with all later ones.
+# summed WHAT: the counts of endings.
+summed() {
+    printf '%-60s %6d ends with 9, %d with the whole answer\n' "$1" "$wanted" "$whole"
+}
+
+# allocations JOURNAL: the program on it, with each allocation failing by itself and with all later
+# ones.
 allocations() {
     with 0 "$program" replay <"$1" >"$work/transcript"
     ample=$?
@@ -86,7 +109,7 @@ allocations() {
         ended $? "where allocation $number and all later ones fail"
         number=$((number + 1))
     done
-    printf '%-40s %6d allocations: %6d ends with 9, %d with the whole answer\n' "$(basename "$1")" "$total" "$wanted" "$whole"
+    summed "$(basename "$1"), $total allocations:"
 }
 
 larger_journal() {
@@ -94,8 +117,12 @@ larger_journal() {
         said = sprintf("%999s", "")
         gsub(/ /, "78", said)
         print "journal 1 7\ncall 1 worker w 0\nspawned 1 1 up"
-        print "chunk 1 1 270000007b226576656e74223a2272756e6e696e67222c227461726765744964223a22776f726b6572227d"
-        for (i = 1; i <= 3000; i++) print "call 1 router r" i " w {\"mediaCodecs\":[]}\nchunk 1 1 e803000044" said
+        running = "7b226576656e74223a2272756e6e696e67222c227461726765744964223a22776f726b6572227d"
+        print "chunk 1 1 27000000" running
+        for (i = 1; i <= 3000; i++) {
+            print "call 1 router r" i " w {\"mediaCodecs\":[]}"
+            print "chunk 1 1 e803000044" said
+        }
     }'
 }
 
@@ -116,11 +143,18 @@ room() {
         ended "$status" "in $room KiB"
         room=$((room - enough / 200))
     done
-    printf '%-40s from %d KiB to %d: %6d ends with 9, %d with the whole answer\n' "a larger journal" "$enough" "$room" "$wanted" "$whole"
+    summed "a larger journal, from $enough KiB to $room:"
 }
 
-crates=${*:-ms_base ms_devices host_core run_top mediahub}
-printf '%-12s %-72s %6s %6s %6s %6s\n' crate test allocs passed wanted other
+# Each crate whose tests are given an allocator, in the order of crates.txt.
+allocating() {
+    sed -n 's/^\([a-z_0-9]*\)[ :].*/\1/p' "$top/crates.txt" | while read -r crate; do
+        ! grep -rlq 'rt\.alloc()' "$top/crates/$crate/src" --include='*tests.rt' || echo "$crate"
+    done
+}
+
+crates=${*:-$(allocating)}
+row crate test allocs passed wanted other
 for crate in $crates; do
     tests "$crate"
 done

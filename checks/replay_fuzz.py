@@ -1,27 +1,28 @@
 #!/usr/bin/env python3
-"""Replays journals with the built program and with the model, and compares exit status, standard output and standard error. The
-journals are the edges of each rule, and as many more as are asked for, made at random from a seed. The first differences are
-printed, each with a journal that was cut down to the lines that it needs.
+"""Replays journals with the built program and with the model, and compares exit status, standard
+output and standard error. The journals are named cases of the edges of each rule, and as many more
+as are asked for, made at random from a seed. The first differences are printed, each with a journal
+that was cut down to the lines that it needs.
 
 Usage: checks/replay_fuzz.py [--seed N] [--cases N] PROGRAM
 """
 
 import argparse
-import random
 import re
 import subprocess
 import sys
 from collections import Counter
-from itertools import zip_longest
+from itertools import chain, zip_longest
 
-import journals
-from replay_model import replay
+import cases
+from model import replay
 
 SHOWN = 5
 SECONDS = 60
 TO_BE_MET = (
-    "bad utf8, bad head, bad cut, bad op, bad words, bad number, bad name, bad event, bad json, bad hex, open worker, open router, spawn, up, "
-    "running, sent, late, stray, unexpected, log, settled ok, settled nametaken, settled noname, settled wrongkind, settled invalidstate, "
+    "bad utf8, bad head, bad cut, bad op, bad words, bad number, bad name, bad event, bad json, "
+    "bad hex, open worker, open router, spawn, up, running, sent, late, stray, unexpected, log, "
+    "settled ok, settled nametaken, settled noname, settled wrongkind, settled invalidstate, "
     "settled typeerror, settled worker TypeError, settled worker Error"
 ).split(", ")
 
@@ -54,15 +55,16 @@ def shrunk(program, text):
     return b"".join(lines)
 
 
-def show(program, text):
+def show(program, name, text):
     text = shrunk(program, text)
-    print("A difference, on the journal")
+    print(f"A difference: {name}. The journal")
     for line in text.split(b"\n"):
         print("   ", str(line)[:400])
     status, output, error = run(program, text)
     wanted_status, wanted = replay(text)
     print(f"  program: status {status}, standard error {error}; model: status {wanted_status}")
-    for place, (got, want) in enumerate(zip_longest(output.split(b"\n"), wanted.split(b"\n")), 1):
+    both = zip_longest(output.split(b"\n"), wanted.split(b"\n"))
+    for place, (got, want) in enumerate(both, 1):
         if got != want:
             print(f"  line {place} of the output: program {got}, model {want}")
             break
@@ -82,12 +84,6 @@ def kinds_of(answer):
             yield words[0]
 
 
-def texts_of(seed, cases):
-    yield from journals.edges()
-    for case in range(cases):
-        yield journals.at_random(random.Random(f"{seed} {case}"))
-
-
 def main():
     words = argparse.ArgumentParser(description=__doc__)
     words.add_argument("--seed", type=int, default=1)
@@ -96,15 +92,16 @@ def main():
     words = words.parse_args()
     met = Counter()
     tried = different = 0
-    for text in texts_of(words.seed, words.cases):
+    for name, text in chain(cases.edges(), cases.at_random(words.seed, words.cases)):
         tried += 1
         met.update(set(kinds_of(replay(text)[1])))
         if differs(words.program, text):
             different += 1
             if different <= SHOWN:
-                show(words.program, text)
+                show(words.program, name, text)
     missing = [kind for kind in TO_BE_MET if met[kind] == 0]
-    print(f"{tried} journals, {different} differences. Met: " + ", ".join(f"{kind} {met[kind]}" for kind in sorted(met)))
+    counts = ", ".join(f"{kind} {met[kind]}" for kind in sorted(met))
+    print(f"{tried} journals, {different} differences. Met: {counts}")
     if missing:
         print("Not met:", ", ".join(missing))
     return 1 if different or missing else 0

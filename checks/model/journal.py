@@ -1,0 +1,153 @@
+"""How the text of a journal is read: the seed and the entries, or the first bad line."""
+
+import re
+from dataclasses import dataclass
+
+from model.json_reader import is_json
+
+CHUNK_LIMIT = 65_536
+SLOTS = LANES = 64
+GENERATIONS = 1_001
+BUDGETS = 1_000
+SEEDS = 2**60
+
+
+class BadLine(Exception):
+    def __init__(self, line, code):
+        super().__init__(line, code)
+        self.line = line
+        self.code = code
+
+
+class Fault(Exception):
+    """What is wrong with a line: its code."""
+
+
+@dataclass
+class WorkerCall:
+    lane: int
+    name: str
+    budget: int
+
+
+@dataclass
+class RouterCall:
+    lane: int
+    name: str
+    worker: str
+    options: str
+
+
+@dataclass
+class Spawned:
+    slot: int
+    generation: int
+    is_up: bool
+
+
+@dataclass
+class Chunk:
+    slot: int
+    generation: int
+    data: bytes
+
+
+def read_journal(text):
+    """The seed, and the entries with their lines."""
+    lines = text.split(b"\n")
+    is_cut = text == b"" or lines[-1] != b""
+    if not is_cut:
+        lines.pop()
+    seed = None
+    entries = []
+    for number, line in enumerate(lines, 1):
+        try:
+            words = utf8_of(line)
+            if number == 1:
+                seed = seed_of(words)
+            if is_cut and number == len(lines):
+                raise Fault("cut")
+            if number > 1:
+                entries.append((number, entry_of(words)))
+        except Fault as fault:
+            raise BadLine(number, str(fault)) from None
+    return seed, entries
+
+
+def utf8_of(line):
+    try:
+        return line.decode("utf-8")
+    except UnicodeDecodeError:
+        raise Fault("utf8") from None
+
+
+def seed_of(line):
+    words = line.split(" ")
+    if len(words) != 3 or words[:2] != ["journal", "1"] or not is_number(words[2], 0, SEEDS - 1):
+        raise Fault("head")
+    return int(words[2])
+
+
+def entry_of(line):
+    words = line.split(" ")
+    if words[0] == "call" and words[2:3] == ["worker"]:
+        with_words(words, 5)
+        lane, name = number_of(words[1], 1, LANES), name_of(words[3])
+        return WorkerCall(lane, name, number_of(words[4], 0, BUDGETS))
+    if words[0] == "call" and words[2:3] == ["router"]:
+        words = line.split(" ", 5)
+        with_words(words, 6)
+        lane, name = number_of(words[1], 1, LANES), name_of(words[3])
+        return RouterCall(lane, name, name_of(words[4]), json_of(words[5]))
+    if words[0] == "spawned":
+        with_words(words, 4)
+        return Spawned(*worker_of(words), is_up_of(words[3]))
+    if words[0] == "chunk":
+        with_words(words, 4)
+        return Chunk(*worker_of(words), bytes_of(words[3]))
+    raise Fault("op")
+
+
+def with_words(words, count):
+    if len(words) != count:
+        raise Fault("words")
+
+
+def worker_of(words):
+    return number_of(words[1], 1, SLOTS), number_of(words[2], 1, GENERATIONS)
+
+
+def is_number(word, least, greatest):
+    if len(word) > 20 or re.fullmatch("0|[1-9][0-9]*", word) is None:
+        return False
+    return least <= int(word) <= greatest
+
+
+def number_of(word, least, greatest):
+    if not is_number(word, least, greatest):
+        raise Fault("number")
+    return int(word)
+
+
+def name_of(word):
+    if re.fullmatch("[a-z0-9_]{1,64}", word) is None:
+        raise Fault("name")
+    return word
+
+
+def is_up_of(word):
+    if word not in ("up", "failed"):
+        raise Fault("event")
+    return word == "up"
+
+
+def json_of(word):
+    if not is_json(word):
+        raise Fault("json")
+    return word
+
+
+def bytes_of(word):
+    if len(word) > 2 * CHUNK_LIMIT or re.fullmatch("(?:[0-9a-fA-F]{2})+", word) is None:
+        raise Fault("hex")
+    return bytes.fromhex(word)

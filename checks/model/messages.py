@@ -1,0 +1,79 @@
+"""Which message a payload of a worker is."""
+
+import re
+from dataclasses import dataclass
+
+from model.json_reader import NoJson, json_value
+
+IDS = 2**32 - 1
+
+
+@dataclass
+class Accepted:
+    id: int
+
+
+@dataclass
+class Refused:
+    id: int
+    error: str
+    reason: str
+
+
+@dataclass
+class Notice:
+    target: str
+    event: str
+
+
+@dataclass
+class Log:
+    letter: str
+    data: bytes
+
+
+class Packet:
+    """A packet of some object."""
+
+
+class Unexpected:
+    """What no form of a message reads."""
+
+
+def message_of(payload):
+    if payload[:1] in (b"D", b"W", b"E", b"X"):
+        return Log(chr(payload[0]), payload[1:])
+    if payload[:1] == b"R":
+        return Packet() if is_uuid(payload[1:37]) else Unexpected()
+    try:
+        return said_by(json_value(payload.decode("utf-8")))
+    except (UnicodeDecodeError, NoJson):
+        return Unexpected()
+
+
+def is_uuid(text):
+    return re.fullmatch(rb"[0-9a-fA-F]{8}(?:-[0-9a-fA-F]{4}){3}-[0-9a-fA-F]{12}", text) is not None
+
+
+def said_by(value):
+    if type(value) is not dict:
+        return Unexpected()
+    if "id" in value:
+        return response_of(value)
+    target, event = value.get("targetId"), value.get("event")
+    if type(target) is str and type(event) is str:
+        return Notice(target, event)
+    return Unexpected()
+
+
+def response_of(value):
+    id_ = value["id"]
+    if type(id_) is not int or not 1 <= id_ <= IDS:
+        return Unexpected()
+    if value.get("accepted") is True:
+        return Accepted(id_)
+    error, reason = value.get("error"), value.get("reason")
+    if type(error) is not str:
+        return Unexpected()
+    kind = "TypeError" if error == "TypeError" else "Error"
+    return Refused(id_, kind, reason if type(reason) is str else "")
