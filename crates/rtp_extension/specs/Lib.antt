@@ -1,0 +1,7 @@
+pub mod Elements
+pub mod Reading
+pub mod Viewing
+pub mod Ids
+pub mod Rewriting
+pub mod Laws
+pub mod Rows
