@@ -20,9 +20,9 @@ trap 'rm -rf "$work"' EXIT
 trap 'exit 1' HUP INT TERM
 clang -O2 -shared -fPIC -o "$work/fail_alloc.so" "$top/checks/fail_alloc.c" || exit 1
 wrong=0
-# How a test tells that memory was wanted, and the bytes of "no more told", which stand for what an
-# object in memory tells no more.
-wanted_form='NoMemory|AllocError|AllocFailed|Status\(9\)'
+# How a test tells that memory was wanted, "memory" where it compares codes as bytes among them, and
+# the bytes of "no more told", which stand for what an object in memory tells no more.
+wanted_form='NoMemory|AllocError|AllocFailed|Status\(9\)|out of memory|left: \[109, 101, 109, 111, 114, 121\]'
 untold_form='left: \[110, 111, 32, 109, 111, 114, 101, 32, 116, 111, 108, 100\]'
 
 # with NUMBER COMMAND..: the command, with that allocation failing. The number of all is in

@@ -108,7 +108,7 @@ fn a_read_goes_on_after_an_interruption_and_fails_in_mid_stream(
 fn a_piece_is_written_to_its_end(rt: HostRuntime) -> Result<(), Fail> {
     let mut writer = Writer {
         turn: 0,
-        taken: Vec::new(rt.alloc()),
+        taken: Vec::with_capacity(rt.alloc(), 6)?,
     };
     let answers = three_writes(&mut Output::new(&mut writer));
     assert!(rt; answers.as_slice() == [Ok(()), Ok(()), Err(Failed)].as_slice());
