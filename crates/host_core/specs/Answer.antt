@@ -4,6 +4,7 @@ use Rattle.std.specs.List.{list_any, list_all}
 use Rattle.serde_json.specs.Data.{Data}
 use Rattle.serde_json.specs.Written.{compact_text}
 use Rattle.ms_base.specs.declared.keys.CallKey.{CallKey}
+use Rattle.ms_base.specs.Kinds.{same_kind}
 use Rattle.ms_base.specs.declared.keys.Kind.{Kind}
 use Rattle.ms_base.specs.declared.keys.Kind.TheVariants as kind
 use Rattle.ms_base.specs.declared.keys.Serial.{Serial}
@@ -69,14 +70,6 @@ needs (Worker name budget) = []
 needs (Router name worker options) = record { object = worker; kinds = kind.Worker ∷ [] } ∷ []
 
 -- ---- refusals, in their order; each test is over all names or objects of the call
-
--- kinds are told apart by a number of each
-abbrev pub kind_number : Kind → ℕ
-kind_number kind.Worker = 0
-kind_number kind.Router = 1
-
-abbrev pub same_kind : Kind → Kind → Bool
-same_kind a b = kind_number a == kind_number b
 
 abbrev pub is_of_kind : Need → Bool
 is_of_kind n = list_any (same_kind n.object.kind) n.kinds

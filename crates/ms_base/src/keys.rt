@@ -3,6 +3,14 @@
 pub enum Kind {
     Worker,
     Router,
+    /// A transport over a socket of its own, which a client sends to.
+    Plain,
+    /// A transport that is one end of a pipe between two Routers.
+    Pipe,
+    /// A transport whose packets go over the worker's channel.
+    Direct,
+    Producer,
+    Consumer,
 }
 
 /// Why an object has closed.

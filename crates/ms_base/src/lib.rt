@@ -12,6 +12,7 @@ mod keys;
 mod name;
 mod outcome;
 mod text;
+mod tuple;
 mod words;
 
 pub use applied::{Applied, ApplyFault, SlotLook};
@@ -24,6 +25,7 @@ pub use keys::{CallKey, Kind, Media, Reason, Serial, WorkerKey};
 pub use name::{Name, NameFault};
 pub use outcome::{Outcome, Verdict, WorkerError};
 pub use text::Text;
+pub use tuple::Tuple;
 pub use words::{digits, push_hex, push_number, push_word, push_worker};
 
 #[cfg(test)]

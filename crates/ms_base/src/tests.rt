@@ -1,6 +1,6 @@
 use crate::{
-    Bytes, Code, Entry, Id, IdFault, Name, NameFault, Op, Outcome, Text, Verdict, WorkerError,
-    WorkerKey, push_hex, push_number, push_word, push_worker,
+    Bytes, Code, Entry, Id, IdFault, Name, NameFault, Op, Outcome, Text, Tuple, Verdict,
+    WorkerError, WorkerKey, push_hex, push_number, push_word, push_worker,
 };
 use std::test::Fail;
 
@@ -98,4 +98,22 @@ fn words_behind_their_spaces(rt: HostRuntime) -> Result<(), Fail> {
         b"chunk 64 1001 same_router 00af0".as_slice()
     );
     Ok(())
+}
+
+#[test]
+fn addresses_by_their_form(rt: HostRuntime) {
+    for (text, want) in [
+        (b"127.0.0.1".as_slice(), Some([127, 0, 0, 1])),
+        (b"255.255.255.255", Some([255; 4])),
+        (b"0.0.0.0", Some([0; 4])),
+        (b"256.0.0.1", None),
+        (b"01.0.0.1", None),
+        (b"1.2.3", None),
+        (b"1.2.3.4.5", None),
+        (b"1.2.3.4 ", None),
+        (b"::1", None),
+        (b"", None),
+    ] {
+        assert!(rt; Tuple::read_ip(text) == want);
+    }
 }

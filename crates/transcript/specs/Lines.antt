@@ -18,6 +18,11 @@ use Rattle.transcript.specs.declared.note.Note.TheVariants as note
 abbrev pub kind_word : Kind → List ℕ
 kind_word kind.Worker = codes "worker"
 kind_word kind.Router = codes "router"
+kind_word kind.Plain = codes "plain"
+kind_word kind.Pipe = codes "pipe"
+kind_word kind.Direct = codes "direct"
+kind_word kind.Producer = codes "producer"
+kind_word kind.Consumer = codes "consumer"
 
 abbrev pub error_word : WorkerError → List ℕ
 error_word error.TypeError = codes "TypeError"

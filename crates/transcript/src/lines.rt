@@ -162,6 +162,11 @@ fn kind_word(kind: Kind) -> &'static [u8]
     match kind {
         Kind::Worker => b"worker",
         Kind::Router => b"router",
+        Kind::Plain => b"plain",
+        Kind::Pipe => b"pipe",
+        Kind::Direct => b"direct",
+        Kind::Producer => b"producer",
+        Kind::Consumer => b"consumer",
     }
 }
 
