@@ -9,7 +9,7 @@ mod packet;
 mod rewrite;
 
 pub use fault::RtpFault;
-pub use laws::{grammar, one_reading};
+pub use laws::{fields_by_places, grammar, one_reading, rewritten_is_a_packet};
 pub use packet::{Packet, View};
 pub use rewrite::set_fields;
 

@@ -1,6 +1,6 @@
 //! Reading a packet where it lies.
 
-ghost use Rattle.std.specs.Prelude.{◌≡◌, ◌++◌, IfOk, MatchOption};
+ghost use Rattle.std.specs.Prelude.{◌≡◌, ◌<◌, ◌++◌, IfOk, MatchOption};
 ghost use Rattle.std.specs.Result.{result_err};
 ghost use Rattle.rtp_packet.specs.Packet.{Fields, IsPacket, fixed_header, csrc_list, header_extension, padding_bytes};
 ghost use Rattle.rtp_packet.specs.Fault.{fault_of};
@@ -57,6 +57,8 @@ impl Packet {
         ensures found { IfOk result (λ fields. IsPacket fields bytes.now) }
         // Each packet is read, with its fields.
         ensures only { (fields : Fields) → IsPacket fields bytes.now → result ≡ Ok fields }
+        // Each field is read at its place.
+        ensures places { IfOk result (λ fields. fields ≡ fields_of bytes.now) }
         // What is no packet has this fault.
         ensures fault { result_err result ≡ fault_of bytes.now }
     {
@@ -113,7 +115,8 @@ impl<'a> View<'a> {
     /// The payload type, below 128.
     #[tactic(auto, unfolding(crate::specs::Reading::fields_of))]
     pub fn payload_type(&self) -> u8
-        ensures { result ≡ self.now.payload_type }
+        ensures value { result ≡ self.now.payload_type }
+        ensures fits { result < 128 }
     {
         self.bytes[1] & PAYLOAD_TYPE
     }
