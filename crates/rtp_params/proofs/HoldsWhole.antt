@@ -193,7 +193,7 @@ apart_push (b ∷ before) e apart new =
     let parts = or_parts (eqb b.ssrc e.ssrc) (is_own before e.ssrc) new in
     (own_push before e b.ssrc apart.0 (eqb_swapped b.ssrc e.ssrc parts.0), apart_push before e apart.1 parts.1)
 
-encodings_hold : (d : Data) (es : List Encoding) → encodings_of d ≡ Ok es → Each IsEncoding es × AreApart es
+pub encodings_hold : (d : Data) (es : List Encoding) → encodings_of d ≡ Ok es → Each IsEncoding es × AreApart es
 encodings_hold d es h =
     let read = bind_ok (or_form (as_array d)) _ es h in
     read_keeps (λ (bs : List Encoding). Each IsEncoding bs × AreApart bs) encoding_of
@@ -244,3 +244,18 @@ params_readable d (Err e) h ascending = tt
 pub caps_readable : (d : Data) (r : Result Caps ParamFault) → Gives r (caps_of d) → IfOk r (λ caps. Each HasAscending caps.codecs) → IfOk r IsCaps
 caps_readable d (Ok caps) h ascending = caps_hold d caps h ascending
 caps_readable d (Err e) h ascending = tt
+
+-- ---- the streams alone, whatever the names of parameters
+
+pub streams_hold : (d : Data) (params : Params) → params_of d ≡ Ok params → Each IsEncoding params.encodings × AreApart params.encodings
+unfolding params_in
+streams_hold d params h =
+    let read = bind_ok (object_of d) params_in params h in
+    let ms = read.0 in
+    let codecs = bind_ok (required (codecs_of InParams) (get_member (codes "codecs") ms)) _ params read.2 in
+    let exts = bind_ok (or_default [] (exts_of InParams) (get_member (codes "headerExtensions") ms)) _ params codecs.2 in
+    let encodings = bind_ok (required encodings_of (get_member (codes "encodings") ms)) _ params exts.2 in
+    let rtcp = bind_ok (rtcp_of (get_member (codes "rtcp") ms)) _ params encodings.2 in
+    let made : record { codecs = codecs.0; exts = exts.0; encodings = encodings.0; cname = rtcp.0.0; reduced_size = rtcp.0.1 } ≡ params = ok_is _ params rtcp.2 in
+    subst (λ (p : Params). Each IsEncoding p.encodings × AreApart p.encodings) made
+    (required_holds (λ (es : List Encoding). Each IsEncoding es × AreApart es) encodings_of encodings_hold (get_member (codes "encodings") ms) encodings.0 encodings.1)

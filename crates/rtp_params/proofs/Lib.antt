@@ -5,3 +5,4 @@ pub mod CodecBack
 pub mod WholeBack
 pub mod Holds
 pub mod HoldsWhole
+pub mod MappingHolds

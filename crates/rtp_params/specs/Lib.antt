@@ -3,6 +3,7 @@ pub mod Names
 pub mod Codecs
 pub mod Exts
 pub mod Encodings
+pub mod Mappings
 pub mod Whole
 pub mod Gives
 pub mod Writing

@@ -10,6 +10,7 @@ use Rattle.rtp_params.specs.Reading.{number_of}
 use Rattle.rtp_params.specs.Codecs.{mime_type_in, parameter_of, feedback_in, feedback_of, parameters_of, codec_in, codec_of}
 use Rattle.rtp_params.specs.Exts.{ext_in, ext_of}
 use Rattle.rtp_params.specs.Encodings.{encoding_in, encodings_of}
+use Rattle.rtp_params.specs.Mappings.{types_in, ssrcs_in, mapping_in, mapping_of}
 use Rattle.rtp_params.specs.Names.{is_rtx, apt_of}
 use Rattle.rtp_params.specs.Whole.{rtcp_in, rtcp_of, params_in, params_of, caps_in, caps_of}
 use Rattle.rtp_params.specs.Writing.{number_value}
@@ -274,3 +275,34 @@ no_caps = refl
 
 null_caps : caps_of null ≡ Err code.Form
 null_caps = refl
+
+-- mappings: of what the sender has, and what stands for it
+abbrev types_item : ℕ → ℕ → Data
+types_item mapped payload_type = an_object ((codes "mappedPayloadType", number_value mapped) ∷ (codes "payloadType", number_value payload_type) ∷ [])
+
+abbrev ssrcs_item : ℕ → ℕ → Data
+ssrcs_item mapped ssrc = an_object ((codes "mappedSsrc", number_value mapped) ∷ (codes "ssrc", number_value ssrc) ∷ [])
+
+abbrev mapping_with : List Data → List Data → Data
+mapping_with codecs encodings = an_object ((codes "codecs", a_list codecs) ∷ (codes "encodings", a_list encodings) ∷ [])
+
+mapping_row : mapping_of (mapping_with (types_item 101 96 ∷ types_item 102 97 ∷ []) (ssrcs_item 100000000 2222 ∷ []))
+    ≡ Ok (record { codecs = (96, 101) ∷ (97, 102) ∷ []; encodings = (2222, 100000000) ∷ [] })
+unfolding number_of types_in ssrcs_in mapping_in
+mapping_row = refl
+
+no_codecs_of_mapping : mapping_of (an_object ((codes "encodings", a_list []) ∷ [])) ≡ Err code.Form
+unfolding mapping_in
+no_codecs_of_mapping = refl
+
+no_encodings_of_mapping : mapping_of (an_object ((codes "codecs", a_list []) ∷ [])) ≡ Err code.Form
+unfolding mapping_in
+no_encodings_of_mapping = refl
+
+high_mapped_type : mapping_of (mapping_with (types_item 128 96 ∷ []) []) ≡ Err code.Form
+unfolding number_of types_in mapping_in
+high_mapped_type = refl
+
+high_mapped_ssrc : mapping_of (mapping_with [] (ssrcs_item (2 ^ 32) 7 ∷ [])) ≡ Err code.Form
+unfolding number_of ssrcs_in mapping_in
+high_mapped_ssrc = refl

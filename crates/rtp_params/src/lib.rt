@@ -21,11 +21,11 @@ pub use encoding::Encoding;
 pub use ext::Ext;
 pub use fault::ParamFault;
 pub use items::{Copied, Items};
-pub use laws::{written_caps_read_back, written_params_read_back};
+pub use laws::{what_is_read_fits, written_caps_read_back, written_params_read_back};
 pub use mapping::Mapping;
 pub use names::is_same_name;
 pub use params::{Caps, Params};
-pub use read::{read_caps, read_params};
+pub use read::{read_caps, read_encodings, read_mapping, read_params};
 pub use table::table_exts;
 pub use write::{write_caps, write_params};
 

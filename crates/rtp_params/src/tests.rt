@@ -1,6 +1,6 @@
 use crate::{
-    Caps, Codec, ParamFault, Params, is_same_name, read_caps, read_params, table_exts, write_caps,
-    write_params,
+    Caps, Codec, Encoding, Mapping, ParamFault, Params, is_same_name, read_caps, read_encodings,
+    read_mapping, read_params, table_exts, write_caps, write_params,
 };
 use ms_base::Media;
 use serde_json::Value;
@@ -86,6 +86,26 @@ const CASES: &str = r#"[
     ["form", {"codecs": [], "encodings": [], "rtcp": {"reducedSize": "true"}}]
 ]"#;
 
+// Mappings.
+const CASES_OF_MAPPINGS: &str = r#"[
+    ["ok", {"codecs": [], "encodings": [], "other": null}],
+    ["ok", {"codecs": [{"mappedPayloadType": 0, "payloadType": 127}], "encodings": [{"mappedSsrc": 0, "ssrc": 4294967295}]}],
+    ["form", []],
+    ["form", {"encodings": []}],
+    ["form", {"codecs": []}],
+    ["form", {"codecs": {}, "encodings": []}],
+    ["form", {"codecs": [], "encodings": null}],
+    ["form", {"codecs": [7], "encodings": []}],
+    ["form", {"codecs": [{"payloadType": 1}], "encodings": []}],
+    ["form", {"codecs": [{"mappedPayloadType": 1}], "encodings": []}],
+    ["form", {"codecs": [{"mappedPayloadType": 128, "payloadType": 1}], "encodings": []}],
+    ["form", {"codecs": [{"mappedPayloadType": 1, "payloadType": 128}], "encodings": []}],
+    ["form", {"codecs": [], "encodings": [{"ssrc": 1}]}],
+    ["form", {"codecs": [], "encodings": [{"mappedSsrc": 1}]}],
+    ["form", {"codecs": [], "encodings": [{"mappedSsrc": 4294967296, "ssrc": 1}]}],
+    ["form", {"codecs": [], "encodings": [{"mappedSsrc": 1, "ssrc": -1}]}]
+]"#;
+
 // What a reading comes to, in one word.
 fn word_of<T: Drop>(read: Result<T, ParamFault>) -> &'static [u8] {
     match read {
@@ -149,6 +169,66 @@ fn each_fault_of_an_extension_has_its_code(rt: HostRuntime) -> Result<(), Fail> 
             expected(case)
         );
     }
+    Ok(())
+}
+
+fn word_of_mapping(alloc: Global, value: &Value) -> &'static [u8] {
+    word_of(read_mapping(alloc, value))
+}
+
+#[test]
+fn each_fault_of_a_mapping_has_its_code(rt: HostRuntime) -> Result<(), Fail> {
+    let cases = Value::from_str(rt.alloc(), CASES_OF_MAPPINGS)?;
+    let cases = cases.as_array().ok_or("no list")?;
+    assert_eq!(rt; cases.len(), 16);
+    for case in cases {
+        let value = case.get(1).ok_or("no case")?;
+        assert_eq!(rt; word_of_mapping(rt.alloc(), value), expected(case));
+    }
+    Ok(())
+}
+
+fn mapping_in(alloc: Global, text: &str) -> Result<Mapping, Fail> {
+    let value = Value::from_str(alloc, text)?;
+    Ok(read_mapping(alloc, &value)?)
+}
+
+#[test]
+fn a_mapping_has_pairs_of_own_and_mapped(rt: HostRuntime) -> Result<(), Fail> {
+    let mapping = mapping_in(
+        rt.alloc(),
+        r#"{"codecs":[{"mappedPayloadType":101,"payloadType":96},{"mappedPayloadType":102,"payloadType":97}],"encodings":[{"mappedSsrc":100000000,"ssrc":2222}]}"#,
+    )?;
+    assert_eq!(rt;
+        mapping.codecs.as_slice(),
+        [(96, 101), (97, 102)].as_slice()
+    );
+    assert_eq!(rt;
+        mapping.encodings.as_slice(),
+        [(2222, 100000000)].as_slice()
+    );
+    Ok(())
+}
+
+fn encodings_in(alloc: Global, text: &str) -> Result<Vec<Encoding>, Fail> {
+    let value = Value::from_str(alloc, text)?;
+    Ok(read_encodings(alloc, &value)?.into_vec())
+}
+
+#[test]
+fn encodings_are_read_by_themselves(rt: HostRuntime) -> Result<(), Fail> {
+    let encodings = encodings_in(rt.alloc(), r#"[{"ssrc":7},{"rtx":{"ssrc":9},"ssrc":8}]"#)?;
+    assert_eq!(rt;
+        encodings.as_slice(),
+        [
+            Encoding { ssrc: 7, rtx: None },
+            Encoding {
+                ssrc: 8,
+                rtx: Some(9)
+            }
+        ]
+        .as_slice()
+    );
     Ok(())
 }
 

@@ -132,9 +132,11 @@ fn read_items(alloc: Global, values: &[Value]) -> Result<Items<Encoding>, ParamF
     Ok(encodings.into_items())
 }
 
-// A list of encodings.
+/// The encodings that a value is a list of.
+///
+/// `TypeError` comes exactly where it is none, with the code of its first fault in the order of reading.
 #[tactic(auto, using(crate::proofs::ReadLemmas::items_list_of))]
-fn read_encodings(alloc: Global, value: &Value) -> Result<Items<Encoding>, ParamFault>
+pub fn read_encodings(alloc: Global, value: &Value) -> Result<Items<Encoding>, ParamFault>
     ensures { Gives result (encodings_of (view value.now)) }
 {
     match value.as_array() {
