@@ -1,4 +1,10 @@
-use crate::{Failed, MemSink, MemSource, Sink, Source};
+ghost use Rattle.std.specs.Prelude.{◌≡◌, ◌≤◌, IfOk, length};
+
+use crate::{
+    EVENT_BYTES, Failed, GivenEvent, InEvent, Inbox, MemEvent, MemInbox, MemOutbox, MemSink,
+    MemSource, OutCall, Outbox, Sink, Source,
+};
+use ms_base::{Bytes, Tuple};
 use std::alloc::Global;
 use std::test::Fail;
 
@@ -46,5 +52,127 @@ fn a_sink_tells_what_it_got(rt: HostRuntime) -> Result<(), Fail> {
         assert_eq!(rt; two_writes(&mut sink).as_slice(), answers.as_slice());
         assert_eq!(rt; sink.told().unwrap_or(b"no more told"), told);
     }
+    Ok(())
+}
+
+const PEER: Tuple = Tuple {
+    ip: [127, 0, 0, 1],
+    port: 6000,
+};
+
+// Bytes of this length, all 7.
+fn long(alloc: Global, len: usize) -> Result<Bytes, Fail> {
+    Ok(Bytes::from_vec(vec![in alloc; 7; len]?))
+}
+
+// Bytes of the channel that take two events, none, and a datagram that is cut.
+fn long_events(alloc: Global) -> Result<Vec<MemEvent>, Fail> {
+    let mut events = Vec::new(alloc);
+    events.push(MemEvent::Channel(long(alloc, EVENT_BYTES + 2)?))?;
+    events.push(MemEvent::Channel(Bytes::new(alloc)))?;
+    events.push(MemEvent::Datagram {
+        link: 3,
+        from: PEER,
+        packet: long(alloc, EVENT_BYTES + 1)?,
+    })?;
+    Ok(events)
+}
+
+fn place(alloc: Global, len: usize) -> Result<Vec<u8>, Fail>
+    ensures { IfOk result (λ place. length place.items ≡ len) }
+{
+    Ok(vec![in alloc; 0; len]?)
+}
+
+// What the next six calls answer.
+fn six_answers<I: Inbox>(inbox: &mut I, into: &mut [u8]) -> [Result<InEvent, Failed>; 6]
+    requires { EVENT_BYTES ≤ length into.old }
+{
+    [
+        inbox.next(into),
+        inbox.next(into),
+        inbox.next(into),
+        inbox.next(into),
+        inbox.next(into),
+        inbox.next(into),
+    ]
+}
+
+#[test]
+fn an_inbox_gives_its_events_and_then_its_end(rt: HostRuntime) -> Result<(), Fail> {
+    let events = long_events(rt.alloc())?;
+    let mut inbox = MemInbox::new(rt.alloc(), events, numbers(rt.alloc(), &[3])?)?;
+    let mut into = place(rt.alloc(), EVENT_BYTES)?;
+    let answers = six_answers(&mut inbox, &mut into);
+    let cut = InEvent::Datagram {
+        link: 3,
+        from: PEER,
+        len: EVENT_BYTES,
+    };
+    let wanted = [
+        Ok(InEvent::Channel { len: EVENT_BYTES }),
+        Ok(InEvent::Channel { len: 2 }),
+        Err(Failed),
+        Ok(cut),
+        Ok(InEvent::End),
+        Ok(InEvent::End),
+    ];
+    assert!(rt; answers.as_slice() == wanted.as_slice());
+    assert!(rt; tells_five(&inbox));
+    Ok(())
+}
+
+// Whether it tells five events, with the bytes of the second one and two ends at the end.
+fn tells_five(inbox: &MemInbox) -> bool {
+    let Some([_, GivenEvent::Channel(bytes), _, first, second]) = inbox.told() else {
+        return false;
+    };
+    bytes.as_slice() == [7, 7].as_slice() && *first == GivenEvent::End && *second == GivenEvent::End
+}
+
+// A call of each kind, a `bind` twice.
+fn five_calls<O: Outbox>(outbox: &mut O) -> (Result<u16, Failed>, Result<u16, Failed>, [bool; 2]) {
+    let first = outbox.bind(1, [127, 0, 0, 1]);
+    let frame = outbox.channel(b"frame").is_ok();
+    outbox.shut(1);
+    let sent = outbox.datagram(1, PEER, b"packet").is_ok();
+    let second = outbox.bind(2, [10, 0, 0, 1]);
+    (first, second, [frame, sent])
+}
+
+fn told_calls(alloc: Global) -> Result<Vec<OutCall>, Fail> {
+    Ok(vec![in alloc;
+        OutCall::Bind {
+            link: 1,
+            ip: [127, 0, 0, 1],
+            port: Some(40_000)
+        },
+        OutCall::Channel {
+            frame: Bytes::from_slice(alloc, b"frame")?,
+            failed: true
+        },
+        OutCall::Shut { link: 1 },
+        OutCall::Datagram {
+            link: 1,
+            to: PEER,
+            packet: Bytes::from_slice(alloc, b"packet")?,
+            failed: false
+        },
+        OutCall::Bind {
+            link: 2,
+            ip: [10, 0, 0, 1],
+            port: None
+        },
+    ]?)
+}
+
+#[test]
+fn an_outbox_tells_each_call_with_its_answer(rt: HostRuntime) -> Result<(), Fail> {
+    let ports = Vec::from_slice(rt.alloc(), &[40_000])?;
+    let mut outbox = MemOutbox::new(rt.alloc(), ports, numbers(rt.alloc(), &[2])?)?;
+    let answers = five_calls(&mut outbox);
+    assert!(rt; answers == (Ok(40_000), Err(Failed), [false, true]));
+    let told = told_calls(rt.alloc())?;
+    assert!(rt; outbox.told() == Some(told.as_slice()));
     Ok(())
 }
