@@ -3,7 +3,6 @@ use Rattle.std.proofs.Common.{◌≡◌, ◌≤◌, ◌<◌, ℕ, ◌+◌, List,
 use Rattle.std.specs.List.{list_any, list_all}
 use Rattle.std.specs.Prelude.{⊤}
 use Rattle.std.proofs.lemmas.Bool.{leb-false, ltb-false}
-use Rattle.serde_json.specs.Written.{has_float}
 use Rattle.ms_base.specs.declared.entry.Op.{Op}
 use Rattle.ms_base.specs.declared.keys.CallKey.{CallKey}
 use Rattle.ms_base.specs.declared.keys.Serial.{Serial}
@@ -16,7 +15,7 @@ use Rattle.ms_base.specs.declared.code.Code.TheVariants as code
 use Rattle.channel_frames.specs.Frames.{max_payload}
 use Rattle.channel_msgs.specs.Read.{max_id}
 use Rattle.host_core.specs.State.{State, Object, Slot, Wanted, channel_of, pending, numbered, as_serial, call_key, next_call}
-use Rattle.host_core.specs.Answer.{Known, Found, Worker, Router, Ask, Built, Refused, NewWorker, Asked, Answer, Refuses, AddsWorker, Issues, max_slots, makes, is_taken, found, needs, is_of_kind, is_closed, is_unready, wrong_in, built_of, unless_wrong, built_by, build, payload_of, unless_long, unless_spent, on_channel, answer_to, answer, known, new_worker}
+use Rattle.host_core.specs.Answer.{Known, Found, Worker, Router, Ask, Built, Refused, NewWorker, Asked, Answer, Refuses, AddsWorker, Issues, max_slots, makes, is_taken, found, needs, is_of_kind, is_closed, is_unready, wrong_in, built_of, unless_wrong, built_by, build, payload_of, unless_long, on_channel, answer_to, answer, known, new_worker}
 use Rattle.host_core.specs.Laws.{IsSound}
 use Rattle.host_core.specs.LookUps.{ObjectsView, SlotsView, IsFresh, counted}
 use Rattle.host_core.specs.Step.{noted, call_entered, answered, called, object_added, new_slot, worker_wanted}

@@ -4,11 +4,8 @@ use Rattle.std.specs.List.{filter}
 use Rattle.std.proofs.lemmas.Bool.{eqb-true}
 use Rattle.std.proofs.lemmas.List.{append-nil, length_push, length-map}
 use Rattle.std.proofs.lemmas.List.Sums.{sum_by-cons, sum_by_push, length-filter}
+use Rattle.host_core.specs.LookUps.{one_if}
 use Rattle.host_core.specs.Laws.{numbers_from}
-
--- what an element counts for
-abbrev pub one_if : Bool → ℕ
-one_if b = cond b 1 0
 
 pub count-cons : {X : Type 0} (q : X → Bool) (x : X) (xs : List X) → count_by q (x ∷ xs) ≡ one_if (q x) + count_by q xs
 count-cons q x xs = sum_by-cons (λ y. cond (q y) 1 0) x xs

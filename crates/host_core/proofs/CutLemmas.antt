@@ -15,13 +15,27 @@ use Rattle.channel_msgs.specs.Read.{message_of}
 use Rattle.channel_msgs.specs.View.{MessageView, reply, notice, log, rtp, AnswerView, accepted, refused}
 use Rattle.transcript.specs.Lines.{note_line}
 use Rattle.transcript.specs.declared.note.Note.TheVariants as note
-use Rattle.host_core.specs.State.{State, start, Object, Owner, Call, Request, Slot, Stream, same_worker, pending, is_running, is_up_phase, up_slot, is_up, call_settled_if, with_call_settled, bytes_in, stream_of, with_stream}
-use Rattle.host_core.specs.Step.{Micro, Says, Breaks, step, steps, bytes_joined, made, owner_settled, settled_by, replied_to, waiting_call_settled, ran, says_running, heard, heard_by, noted}
+use Rattle.host_core.specs.State.{State, start, Object, Owner, Call, Request, Slot, Stream, pending, is_running, is_up_phase, up_slot, is_up, call_settled_if, with_call_settled, bytes_in, stream_of, with_stream}
+use Rattle.host_notes.specs.Keys.{same_worker}
+use Rattle.host_core.specs.Answer.{Answer, Refuses, AddsWorker, Issues}
+use Rattle.host_core.specs.Step.{Micro, Says, Starting, Breaks, step, steps, answered, bytes_joined, made, owner_settled, settled_by, replied_to, waiting_call_settled, ran, says_running, heard, heard_by, noted}
 use Rattle.host_core.specs.Run.{Journal, breaks_with, break_behind, chunk_micros, after, after_all, state_of, transcript_of}
 use Rattle.host_core.specs.Laws.{in_one, in_two}
 use Rattle.host_core.proofs.Changes.{running_noted, without}
-use Rattle.host_core.proofs.PartsLemmas.{worker-itself}
+use Rattle.host_core.proofs.Keys.{worker-itself}
 use Rattle.host_core.proofs.TraceLemmas.{steps_append, after_all_append}
+
+-- ---- a call and a start leave the calls and the streams as they are
+
+pub answered-apart : (call : CallKey) (a : Answer) (s : State) → ((answered call a s).calls ≡ s.calls) × ((answered call a s).streams ≡ s.streams)
+answered-apart call (Refuses outcome) s = (refl, refl)
+answered-apart call (AddsWorker name budget) s = (refl, refl)
+answered-apart call (Issues under object channel id payload) s = (refl, refl)
+
+pub started-apart : (b : Bool) (worker : WorkerKey) (s : State)
+    → ((steps s (cond b (Starting worker ∷ []) [])).calls ≡ s.calls) × ((steps s (cond b (Starting worker ∷ []) [])).streams ≡ s.streams)
+started-apart true worker s = (refl, refl)
+started-apart false worker s = (refl, refl)
 
 -- ---- the stream of a worker
 

@@ -1,5 +1,5 @@
 -- What a worker says is heard by the tables as by what is known.
-use Rattle.std.proofs.Common.{◌≡◌, ℕ, ◌-◌, List, [], ◌∷◌, Bool, true, false, not, ◌&&◌, ◌==◌, ◌⊎◌, inl, inr, cond, find, is_some, Option, Some, None, IfSome, refl, sym, ap, ap₂, ◌∙◌, subst, count_by}
+use Rattle.std.proofs.Common.{◌≡◌, ℕ, ◌-◌, List, [], ◌∷◌, Bool, true, false, not, ◌&&◌, ◌==◌, ◌⊎◌, inl, inr, cond, is_some, Option, Some, None, IfSome, refl, sym, ap, ◌∙◌, subst}
 use Rattle.std.proofs.lemmas.Bool.{and_parts, and_left, and_right, and_from, true≢false}
 use Rattle.ms_base.specs.declared.keys.CallKey.{CallKey}
 use Rattle.ms_base.specs.declared.keys.Serial.{Serial}
@@ -7,15 +7,17 @@ use Rattle.ms_base.specs.declared.keys.WorkerKey.{WorkerKey}
 use Rattle.channel_msgs.specs.View.{MessageView, AnswerView, NoticeView, ReplyView, reply}
 use Rattle.transcript.specs.declared.note.Note.{Note}
 use Rattle.transcript.specs.declared.note.Note.TheVariants as note
-use Rattle.host_core.specs.State.{State, Object, Request, Slot, same_worker, has_name, is_up_phase, is_up, up_slot, is_running, with_running, with_call_settled, pending, settled}
+use Rattle.host_core.specs.State.{State, Object, Request, Slot, is_up_phase, is_up, up_slot, is_running, with_running, with_call_settled, pending, settled}
+use Rattle.host_notes.specs.Keys.{same_worker}
 use Rattle.host_core.specs.Laws.{IsSound}
 use Rattle.host_core.specs.LookUps.{ObjectsView, SlotsView, IsFresh, waiting_at, issued_by, made_by, makes_named}
 use Rattle.host_core.specs.Step.{noted, replied, replied_to, settled_by, ran, noticed, says_running, waiting_call_settled, heard, heard_by, step, Says}
 use Rattle.host_core.specs.Tables.{IsKept, Moves, Goes}
 use Rattle.host_core.specs.declared.requests.Requests.{Requests}
 use Rattle.host_core.specs.declared.tables.Tables.{Tables}
-use Rattle.host_core.proofs.CountLemmas.{one_if}
-use Rattle.host_core.proofs.TablesLemmas.{worker-same, objects-kept, slots-kept, settled-kept, one-waits, makes-fresh}
+use Rattle.host_core.specs.LookUps.{one_if}
+use Rattle.host_core.proofs.Keys.{worker-same}
+use Rattle.host_core.proofs.TablesLemmas.{objects-kept, slots-kept, settled-kept, one-waits, makes-fresh}
 
 -- ---- a reply
 

@@ -1,28 +1,28 @@
 -- A host goes on with its journal, entry by entry.
-use Rattle.std.proofs.Common.{◌≡◌, ℕ, zero, suc, List, [], ◌∷◌, ◌++◌, length, map, Bool, true, false, ◌&&◌, cond, Option, Some, None, Result, Ok, Err, OnOk, refl, sym, ap, ◌∙◌, subst, append_assoc, inl, inr}
+use Rattle.std.proofs.Common.{◌≡◌, ℕ, zero, suc, List, [], ◌∷◌, ◌++◌, length, Bool, true, false, ◌&&◌, cond, Some, None, Result, Ok, Err, OnOk, refl, sym, ap, ◌∙◌, subst, append_assoc, inl, inr}
 use Rattle.std.specs.List.{find}
 use Rattle.std.proofs.lemmas.Bool.{cases_Bool}
-use Rattle.std.proofs.lemmas.List.{append-nil, map-append}
+use Rattle.std.proofs.lemmas.List.{map-append}
 use Rattle.ms_base.specs.declared.entry.Entry.{Entry}
 use Rattle.ms_base.specs.declared.entry.Entry.TheVariants as entry
 use Rattle.ms_base.specs.declared.entry.Op.{Op}
-use Rattle.ms_base.specs.declared.keys.CallKey.{CallKey}
 use Rattle.ms_base.specs.declared.keys.WorkerKey.{WorkerKey}
-use Rattle.channel_frames.specs.Frames.{frames, frames_within, rest_of, rest_within, is_broken, begins_too_long, begins_with_frame, new_frames}
+use Rattle.channel_frames.specs.Frames.{frames, frames_within, rest_of, rest_within, begins_with_frame, new_frames}
 use Rattle.channel_msgs.specs.Read.{message_of}
-use Rattle.host_core.specs.Answer.{Answer, Refuses, AddsWorker, Issues, answer, known}
+use Rattle.host_core.specs.Answer.{answer, known}
 use Rattle.host_core.specs.LookUps.{unread_of}
 use Rattle.host_core.specs.Laws.{IsSound}
 use Rattle.host_core.specs.Run.{after, micros}
-use Rattle.host_core.specs.State.{State, Slot, Stream, same_worker, next_call, is_up, is_wanted, bytes_in, stream_of, with_stream}
-use Rattle.host_core.specs.Step.{Comes, Says, Starting, step, steps, answered, called, call_entered, started, bytes_joined}
+use Rattle.host_core.specs.State.{State, Slot, Stream, next_call, is_up, is_wanted, bytes_in, stream_of, with_stream}
+use Rattle.host_notes.specs.Keys.{same_worker}
+use Rattle.host_core.specs.Step.{Comes, Says, Starting, step, steps, called, call_entered, bytes_joined}
 use Rattle.host_core.specs.Tables.{IsKept, IsRead, IsHeld, Goes, Moves, ShowsTheSame}
 use Rattle.host_core.specs.declared.readers.Readers.{Readers}
 use Rattle.host_core.specs.declared.tables.Tables.{Tables}
-use Rattle.host_core.proofs.ByWorker.{worker-same, worker-itself}
-use Rattle.host_core.proofs.CutLemmas.{sayings, say, said-apart, chunk-up, chunk-down, stream_of-with_stream}
+use Rattle.host_core.proofs.Keys.{worker-same, worker-itself}
+use Rattle.host_core.proofs.CutLemmas.{answered-apart, started-apart, sayings, say, said-apart, chunk-up, stream_of-with_stream}
 use Rattle.host_core.proofs.SoundLemmas.{sound_step}
-use Rattle.host_core.proofs.TablesLemmas.{shown-itself, shown-then}
+use Rattle.host_core.proofs.TablesLemmas.{shown-then}
 use Rattle.host_core.proofs.TraceLemmas.{steps_append, along_steps}
 
 -- ---- what is sound stays so
@@ -31,15 +31,6 @@ sound-steps : (s : State) (e : Entry) → IsSound s → IsSound (after s e)
 sound-steps s e h = along_steps IsSound sound_step s (micros s e) h
 
 -- ---- a call and a start leave the streams as they are
-
-answered-streams : (call : CallKey) (a : Answer) (s : State) → (answered call a s).streams ≡ s.streams
-answered-streams call (Refuses outcome) s = refl
-answered-streams call (AddsWorker name budget) s = refl
-answered-streams call (Issues under object channel id payload) s = refl
-
-started-streams : (b : Bool) (worker : WorkerKey) (s : State) → (steps s (cond b (Starting worker ∷ []) [])).streams ≡ s.streams
-started-streams true worker s = refl
-started-streams false worker s = refl
 
 read-still : (s t : State) (r : Readers) → t.streams ≡ s.streams → IsRead s r → IsRead t r
 read-still s t r e h = λ w. h w ∙ ap (λ (xs : List Stream). rest_of (stream_of xs w)) (sym e)
@@ -50,7 +41,7 @@ held-call lane o t t' r goes s h =
     record {
       sound = sound-steps s (entry.Call lane o) h.sound;
       kept = goes s h.sound h.kept;
-      read = read-still s (called lane o s) r (answered-streams call (answer (known s) o) (call_entered call o s)) h.read;
+      read = read-still s (called lane o s) r (answered-apart call (answer (known s) o) (call_entered call o s)).1 h.read;
     }
 
 pub held-start : (worker : WorkerKey) (up : Bool) (t t' : Tables) (r : Readers) → Moves (λ s. after s (entry.Spawned worker up)) t t' → (s : State) → IsHeld s t r
@@ -58,7 +49,7 @@ pub held-start : (worker : WorkerKey) (up : Bool) (t t' : Tables) (r : Readers) 
 held-start worker up t t' r moves s h = record {
   sound = sound-steps s (entry.Spawned worker up) h.sound;
   kept = moves s h.kept;
-  read = read-still s (after s (entry.Spawned worker up)) r (started-streams (up && is_wanted s.slots worker) worker s) h.read;
+  read = read-still s (after s (entry.Spawned worker up)) r (started-apart (up && is_wanted s.slots worker) worker s).1 h.read;
 }
 
 -- ---- a start is done where it is wanted
@@ -67,14 +58,6 @@ start-by : (worker : WorkerKey) (up b : Bool) (s : State) (t : Tables) → IsKep
     → after s (entry.Spawned worker up) ≡ steps s (cond b (Starting worker ∷ []) [])
 start-by worker up b s t k e =
     ap (λ c. steps s (cond c (Starting worker ∷ []) [])) (ap (λ (xs : List Slot). up && is_wanted xs worker) (sym k.slots) ∙ e)
-
-pub start-wanted : (worker : WorkerKey) (up : Bool) (t t' : Tables) → (up && is_wanted t.slots.slots worker) ≡ true → Moves (started worker) t t'
-    → Moves (λ s. after s (entry.Spawned worker up)) t t'
-start-wanted worker up t t' e moves = λ s k. subst (λ (x : State). IsKept x t') (sym (start-by worker up true s t k e)) (moves s k)
-
-pub start-unwanted : (worker : WorkerKey) (up : Bool) (t : Tables) → (up && is_wanted t.slots.slots worker) ≡ false
-    → Moves (λ s. after s (entry.Spawned worker up)) t t
-start-unwanted worker up t e = λ s k. subst (λ (x : State). IsKept x t) (sym (start-by worker up false s t k e)) k
 
 -- ---- payload after payload
 
@@ -86,9 +69,6 @@ pub record Hearing (worker : WorkerKey) (before now : Tables) (first later : Rea
   pub others : (w : WorkerKey) → same_worker worker w ≡ false → unread_of later w ≡ unread_of first w
   pub goes : Goes (say worker heard) before now
   pub shown : ShowsTheSame before now
-
-pub hearing-none : (worker : WorkerKey) (t : Tables) (r : Readers) → Hearing worker t t r r
-hearing-none worker t r = record { heard = []; payloads = refl; rest = refl; others = λ w e. refl; goes = λ s h k. k; shown = shown-itself t }
 
 said-more : (worker : WorkerKey) (payloads : List (List ℕ)) (payload : List ℕ) (s : State)
     → say worker (payloads ++ payload ∷ []) s ≡ step (say worker payloads s) (Says worker (message_of payload))
@@ -121,19 +101,10 @@ rest-whole (suc n) stream e = at _ _ _ (begins_with_frame stream) e
     at first rest later true h = absurd cc
     at first rest later false h = refl
 
-pub hearing-done : (worker : WorkerKey) (t0 t : Tables) (r0 r r' : Readers) → Hearing worker t0 t r0 r → (frames (unread_of r worker) ≡ []) × (unread_of r' worker ≡ unread_of r worker)
-    → Goes (say worker (frames (unread_of r0 worker))) t0 t
-hearing-done worker t0 t r0 r r' h none =
-    let all : frames (unread_of r0 worker) ≡ h.heard = h.payloads ∙ ap (λ (l : List (List ℕ)). h.heard ++ l) none.0 ∙ append-nil h.heard in
-    subst (λ (l : List (List ℕ)). Goes (say worker l) t0 t) (sym all) h.goes
-
 pub hearing-rest : (worker : WorkerKey) (t0 t : Tables) (r0 r r' : Readers) → Hearing worker t0 t r0 r → (frames (unread_of r worker) ≡ []) × (unread_of r' worker ≡ unread_of r worker)
     → unread_of r' worker ≡ rest_of (unread_of r0 worker)
 hearing-rest worker t0 t r0 r r' h none =
     none.1 ∙ sym (rest-whole (length (unread_of r worker)) (unread_of r worker) none.0) ∙ h.rest
-
-pub hearing-whole : (worker : WorkerKey) (t0 t : Tables) (r0 r : Readers) → Hearing worker t0 t r0 r → is_broken (unread_of r0 worker) ≡ false → is_broken (unread_of r worker) ≡ false
-hearing-whole worker t0 t r0 r h e = ap begins_too_long h.rest ∙ e
 
 -- ---- a chunk
 
@@ -168,12 +139,6 @@ joined-kept worker bytes s t k = record {
   notes = k.notes;
 }
 
-pub held-down : (worker : WorkerKey) (bytes : List ℕ) (t : Tables) (r : Readers) → is_up t.slots.slots worker ≡ false → (s : State) → IsHeld s t r
-    → IsHeld (after s (entry.Chunk worker bytes)) t r
-held-down worker bytes t r e s h =
-    let down : is_up s.slots worker ≡ false = ap (λ (xs : List Slot). is_up xs worker) (sym h.kept.slots) ∙ e in
-    subst (λ (x : State). IsHeld x t r) (sym (chunk-down s worker bytes down)) h
-
 -- what was fed
 abbrev pub IsFed : WorkerKey → List ℕ → Readers → Readers → Type 0
 IsFed worker bytes r r1 = (w : WorkerKey) → unread_of r1 w ≡ cond (same_worker worker w) (unread_of r w ++ bytes) (unread_of r w)
@@ -183,11 +148,6 @@ fed-itself worker bytes r r1 fed = fed worker ∙ ap (λ b. cond b (unread_of r 
 
 fed-other : (worker w : WorkerKey) (bytes : List ℕ) (r r1 : Readers) → IsFed worker bytes r r1 → same_worker worker w ≡ false → unread_of r1 w ≡ unread_of r w
 fed-other worker w bytes r r1 fed e = fed w ∙ ap (λ b. cond b (unread_of r w ++ bytes) (unread_of r w)) e
-
-pub fed-whole : (worker : WorkerKey) (bytes : List ℕ) (slots : List Slot) (r r1 : Readers) → IsFed worker bytes r r1 → is_up slots worker ≡ true
-    → (is_up slots worker && is_broken (unread_of r worker ++ bytes)) ≡ false → is_broken (unread_of r1 worker) ≡ false
-fed-whole worker bytes slots r r1 fed up whole =
-    ap is_broken (fed-itself worker bytes r r1 fed) ∙ sym (ap (λ b. b && is_broken (unread_of r worker ++ bytes)) up) ∙ whole
 
 module _
     (fresh : (first later : List ℕ) → new_frames first later ≡ frames (rest_of first ++ later))

@@ -1,16 +1,19 @@
 -- What an index tells after a change at one key.
-use Rattle.std.proofs.Common.{◌≡◌, ℕ, ◌+◌, ◌-◌, List, [], ◌∷◌, ◌++◌, Bool, true, false, cond, Option, Some, None, bytes_eq, refl, sym, ap, subst, ◌∙◌, arith}
+use Rattle.std.proofs.Common.{◌≡◌, ℕ, ◌+◌, ◌-◌, List, Bool, true, false, cond, Option, Some, None, bytes_eq, refl, sym, ap, subst, ◌∙◌, arith}
 use Rattle.std.proofs.lemmas.Map.Text.{is_eq-slice_cmp}
 use Rattle.std.specs.BTreeMap as tree
 use Rattle.std.specs.BTreeMap.{BTreeMap}
+use Rattle.std.specs.HashMap as hash
+use Rattle.std.specs.HashMap.{HashMap}
 use Rattle.std.specs.Option.{unwrap_or}
 use Rattle.std.specs.Cmp.{eq_by_cmp_equiv}
 use Rattle.std.specs.Cmp.Lexicographic.{slice_cmp, bytes_decides, nat_list_cmp_total, nat_list_eq_equiv}
 use Rattle.std.specs.Map.{KeepsOthers, IsKeyTest, AreApart, lookup}
 use Rattle.std.specs.Ordering.{is_eq, nat_cmp}
 use Rattle.ms_base.specs.declared.keys.WorkerKey.{WorkerKey}
-use Rattle.host_core.specs.State.{same_worker}
-use Rattle.host_core.proofs.ByWorker.{worker-same}
+use Rattle.host_notes.specs.Keys.{same_worker}
+use Rattle.host_core.specs.LookUps.{same_channel}
+use Rattle.host_core.proofs.Keys.{worker-same, worker-itself}
 
 -- ---- a change at one key
 
@@ -69,21 +72,22 @@ module _ {K : Type 0} (bytes : K → List ℕ) where
   abbrev pub count_in : BTreeMap K ℕ → List ℕ → ℕ
   count_in m name = unwrap_or (at_text bytes m name) 0
 
-  module _ (name : List ℕ) (m n : BTreeMap K ℕ) (v : ℕ)
-      (updates : tree.UpdatesBy (λ x y. slice_cmp nat_cmp (bytes x) (bytes y)) (λ k. slice_cmp nat_cmp name (bytes k)) m n (Some v)) where
-    count-after : (other : List ℕ) → count_in n other ≡ cond (bytes_eq name other) v (count_in m other)
+  module _ (name : List ℕ) (m n : BTreeMap K ℕ) (v : Option ℕ)
+      (updates : tree.UpdatesBy (λ x y. slice_cmp nat_cmp (bytes x) (bytes y)) (λ k. slice_cmp nat_cmp name (bytes k)) m n v) where
+    count-after : (other : List ℕ) → count_in n other ≡ cond (bytes_eq name other) (unwrap_or v 0) (count_in m other)
     count-after other =
         let read : Option ℕ → ℕ = λ o. unwrap_or o 0 in
-        ap read (text-after bytes name m n (Some v) updates other) ∙ cond-map read (bytes_eq name other) (Some v) (at_text bytes m other)
+        ap read (text-after bytes name m n v updates other) ∙ cond-map read (bytes_eq name other) v (at_text bytes m other)
 
-    pub count-raised : v ≡ count_in m name + 1 → (other : List ℕ) → count_in n other ≡ count_in m other + cond (bytes_eq name other) 1 0
+    pub count-raised : unwrap_or v 0 ≡ count_in m name + 1 → (other : List ℕ) → count_in n other ≡ count_in m other + cond (bytes_eq name other) 1 0
     count-raised is other =
-        changed bytes_eq bytes-same (count_in m) (count_in n) name v count-after (λ c. c + 1) is other
+        changed bytes_eq bytes-same (count_in m) (count_in n) name (unwrap_or v 0) count-after (λ c. c + 1) is other
         ∙ one-more (bytes_eq name other) (count_in m other)
 
-    pub count-lowered : v ≡ count_in m name - 1 → (other : List ℕ) → count_in n other ≡ count_in m other - cond (bytes_eq name other) 1 0
+    -- none is no more
+    pub count-lowered : unwrap_or v 0 ≡ count_in m name - 1 → (other : List ℕ) → count_in n other ≡ count_in m other - cond (bytes_eq name other) 1 0
     count-lowered is other =
-        changed bytes_eq bytes-same (count_in m) (count_in n) name v count-after (λ c. c - 1) is other
+        changed bytes_eq bytes-same (count_in m) (count_in n) name (unwrap_or v 0) count-after (λ c. c - 1) is other
         ∙ one-less (bytes_eq name other) (count_in m other)
 
   -- a name that was not there
@@ -94,13 +98,48 @@ module _ {K : Type 0} (bytes : K → List ℕ) where
       let lacking : count_in here key ≡ 0 =
       ap (λ t. count_in t key) still ∙ (ap (count_in m) same ∙ sym (ap (λ p. unwrap_or p 0) none))
       in
-      count-raised key here n 1 updates (omega arith) other
+      count-raised key here n (Some 1) updates (omega arith) other
       ∙ (ap (λ t. count_in t other + cond (bytes_eq key other) 1 0) still ∙ ap (λ k. count_in m other + cond (bytes_eq k other) 1 0) same)
 
 -- ---- a table whose keys are channels
 
-pub count-more : (old new : WorkerKey → Option ℕ) (k : WorkerKey) (v : ℕ) → ((w : WorkerKey) → new w ≡ cond (same_worker k w) (Some v) (old w)) → v ≡ unwrap_or (old k) 0 + 1
-    → (w : WorkerKey) → unwrap_or (new w) 0 ≡ cond (same_worker k w) (unwrap_or (old w) 0 + 1) (unwrap_or (old w) 0)
-count-more old new k v after is =
-    let read : Option ℕ → ℕ = λ o. unwrap_or o 0 in
-    changed same_worker worker-same (λ w. read (old w)) (λ w. read (new w)) k v (λ w. ap read (after w) ∙ cond-map read (same_worker k w) (Some v) (old w)) (λ n. n + 1) is
+either : {A : Type 0} (b : Bool) (x : A) → cond b x x ≡ x
+either true x = refl
+either false x = refl
+
+abbrev pub of_channel : {P S : Type 0} → HashMap (ℕ × ℕ) P S → WorkerKey → Option P
+of_channel table w = hash.get same_channel table (w.slot, w.generation)
+
+-- the table has this at a channel now, and at each other what it had
+abbrev pub Puts : {P S : Type 0} → HashMap (ℕ × ℕ) P S → HashMap (ℕ × ℕ) P S → WorkerKey → P → Type 0
+Puts old new k v = (w : WorkerKey) → of_channel new w ≡ cond (same_worker k w) (Some v) (of_channel old w)
+
+-- it was written where another stood
+pub written : {P S : Type 0} (old new : HashMap (ℕ × ℕ) P S) (k : WorkerKey) (v : P)
+    → hash.UpdatesBy same_channel (same_channel (k.slot, k.generation)) old new (Some v) → Puts old new k v
+written old new k v updates = λ w. updates.0 (w.slot, w.generation)
+
+-- it was inserted
+pub inserted : {P S : Type 0} (old here new : HashMap (ℕ × ℕ) P S) (k : WorkerKey) (v : P) → here ≡ old
+    → hash.UpdatesBy same_channel (same_channel (k.slot, k.generation)) here new (Some v) → Puts old new k v
+inserted old here new k v same updates = λ w.
+    updates.0 (w.slot, w.generation) ∙ ap (λ table. cond (same_worker k w) (Some v) (of_channel table w)) same
+
+module _ {P S : Type 0} (old new : HashMap (ℕ × ℕ) P S) (k : WorkerKey) (v : P) (puts : Puts old new k v) where
+  -- what is told of the channel is a function of what was told
+  pub told : {X : Type 0} (read : Option P → X) (h : X → X) → read (Some v) ≡ h (read (of_channel old k))
+      → (w : WorkerKey) → read (of_channel new w) ≡ cond (same_worker k w) (h (read (of_channel old w))) (read (of_channel old w))
+  told read h is =
+      changed same_worker worker-same (λ w. read (of_channel old w)) (λ w. read (of_channel new w)) k (read (Some v))
+      (λ w. ap read (puts w) ∙ cond-map read (same_worker k w) (Some v) (of_channel old w)) h is
+
+  -- the same is told as before
+  pub told-same : {X : Type 0} (read : Option P → X) → read (Some v) ≡ read (of_channel old k)
+      → (w : WorkerKey) → read (of_channel new w) ≡ read (of_channel old w)
+  told-same read is w = told read (λ x. x) is w ∙ either (same_worker k w) (read (of_channel old w))
+
+  pub told-here : of_channel new k ≡ Some v
+  told-here = puts k ∙ ap (λ b. cond b (Some v) (of_channel old k)) (worker-itself k)
+
+  pub told-there : (w : WorkerKey) → same_worker k w ≡ false → of_channel new w ≡ of_channel old w
+  told-there w other = puts w ∙ ap (λ b. cond b (Some v) (of_channel old w)) other

@@ -1,5 +1,4 @@
 pub mod AnswerLemmas
-pub mod ByWorker
 pub mod CallLemmas
 pub mod Changes
 pub mod CountLemmas
@@ -8,12 +7,12 @@ pub mod DrawLemmas
 pub mod HeardLemmas
 pub mod HostLemmas
 pub mod IndexLemmas
-pub mod LongerLemmas
+pub mod Keys
 pub mod Mapped
-pub mod NotesLemmas
 pub mod ObjectsLemmas
 pub mod PartsLemmas
 pub mod ReadersLemmas
+pub mod RequestsLemmas
 pub mod RunLemmas
 pub mod SentLemmas
 pub mod SoundLemmas

@@ -299,11 +299,6 @@ named-at ps names name s h e =
     let (x, there, number) = serial_in-some (named (objects_in ps) name) s (e ∙ h.serials name) in
     ap (numbered (objects_in ps)) (serial-is x.serial s number) ∙ (named-numbered 1 ps name x (placed ps names h) there ∙ sym there)
 
--- and none where it has none
-pub named-nowhere : {Y : Type 0} (ps : List (Option Object)) (names : BTreeMap (Vec ℕ Y) ℕ) (name : List ℕ) → AreIndexed ps names → None ≡ serial_of names name
-    → None ≡ named (objects_in ps) name
-named-nowhere ps names name h e = serial_in-none (named (objects_in ps) name) (e ∙ h.serials name)
-
 -- the name of an object has its serial, where this is the greatest
 abbrev pub outcome : Bool → ℕ → Option ℕ → Option ℕ
 outcome b serial other = cond b (Some serial) other

@@ -1,35 +1,18 @@
 -- What the parts of a step change in each of the host's lists.
 use Rattle.std.proofs.Common.{◌≡◌, ◌≤◌, ◌<◌, ℕ, zero, suc, ◌+◌, List, [], ◌∷◌, map, nat_lt, Bool, true, false, not, ◌&&◌, ◌==◌, cond, Some, None, refl, sym, ap, ◌∙◌, arith, count_by}
 use Rattle.std.specs.List.{find}
-use Rattle.std.proofs.lemmas.Bool.{eqb-true, eqb-false, and_parts, not-true, true≢false, ltb-true, ltb-false}
+use Rattle.std.proofs.lemmas.Bool.{eqb-false, and_parts, not-true, true≢false, ltb-true, ltb-false}
 use Rattle.std.proofs.lemmas.Bool.Decides.{nat_tests}
 use Rattle.std.proofs.lemmas.List.{length-map}
 use Rattle.ms_base.specs.declared.keys.CallKey.{CallKey}
 use Rattle.ms_base.specs.declared.keys.Serial.{Serial}
 use Rattle.ms_base.specs.declared.keys.WorkerKey.{WorkerKey}
-use Rattle.host_core.specs.State.{Object, Request, Slot, same_worker, pending, settled, waits_as, call_settled_if, with_call_settled, with_running, with_object}
+use Rattle.host_core.specs.State.{Object, Request, Slot, pending, settled, waits_as, call_settled_if, with_call_settled, with_running, with_object}
+use Rattle.host_notes.specs.Keys.{same_worker}
 use Rattle.host_core.specs.Laws.{numbers_from, ids_to, AreInOrder, has_serial, IsBelow, Ascends, waits_for}
-use Rattle.host_core.proofs.CountLemmas.{one_if, count-cons, count-push, picked-cons}
-
--- ---- keys
-
-same-parts : (a b c d : ℕ) → ((a == b) && (c == d)) ≡ true → (a ≡ b) × (c ≡ d)
-same-parts a b c d h = let parts = and_parts (a == b) (c == d) h in (eqb-true a b parts.0, eqb-true c d parts.1)
-
-pub worker-same : (a b : WorkerKey) → same_worker a b ≡ true → a ≡ b
-worker-same a b h =
-    let e = same-parts a.slot b.slot a.generation b.generation h in
-    let first : a ≡ record { slot = b.slot; generation = a.generation } =
-    ap (λ (n : ℕ). let w : WorkerKey = record { slot = n; generation = a.generation } in w) e.0 in
-    let second : record { slot = b.slot; generation = a.generation } ≡ b =
-    ap (λ (n : ℕ). let w : WorkerKey = record { slot = b.slot; generation = n } in w) e.1 in
-    first ∙ second
-
-pub same-itself : (n : ℕ) → (n == n) ≡ true
-same-itself n = grind (arith, nat_tests)
-
-pub worker-itself : (a : WorkerKey) → same_worker a a ≡ true
-worker-itself a = ap (λ b. b && (a.generation == a.generation)) (same-itself a.slot) ∙ same-itself a.generation
+use Rattle.host_core.specs.LookUps.{one_if}
+use Rattle.host_core.proofs.CountLemmas.{count-cons, count-push, picked-cons}
+use Rattle.host_core.proofs.Keys.{worker-itself}
 
 -- ---- a request that is settled
 

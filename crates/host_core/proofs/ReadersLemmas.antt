@@ -1,16 +1,10 @@
 -- What a call of a reader of frames tells of its unread bytes.
 use Rattle.std.proofs.Common.{◌≡◌, ◌↔◌, ℕ, List, [], ◌∷◌, ◌++◌, Bool, true, false, cond, Option, Some, None, Result, Ok, Err, IfOk, IfErr, IfSome, refl, sym, ap, subst, ◌∙◌, ◌⊎◌, inl, inr}
-use Rattle.std.proofs.lemmas.Bool.{cases_Bool}
 use Rattle.std.specs.Prelude.{OnOk, MatchResult, option_to_list}
 use Rattle.channel_frames.specs.Frames.{frames, frames_within, rest_of, is_broken}
 use Rattle.channel_frames.specs.Reading.{Reading, answer_of, answer_by, left_of, left_by}
 use Rattle.channel_frames.specs.declared.fault.FrameFault.{FrameFault}
 use Rattle.channel_frames.specs.declared.fault.FrameFault.TheVariants as fault
-
--- what follows from what holds after an `Ok`
-pub on_ok : {T E : Type 0} (r : Result T E) (P Q : Type 0) → (P → Q) → OnOk r P → OnOk r Q
-on_ok (Ok x) P Q f h = f h
-on_ok (Err e) P Q f h = h
 
 pub no_frames : frames [] ≡ []
 unfolding frames_within

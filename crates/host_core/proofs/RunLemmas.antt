@@ -26,6 +26,7 @@ use Rattle.host_core.specs.declared.readers.Readers.{Readers}
 use Rattle.host_core.specs.declared.tables.Tables.{Tables}
 use Rattle.host_core.proofs.Changes.{Change, still, notes, refuses, wants, issues, starts, joins, accepts, rejects, runs, change, without, running_noted}
 use Rattle.host_core.proofs.SoundLemmas.{sound_start}
+use Rattle.host_core.proofs.TablesLemmas.{slots-are}
 use Rattle.host_core.proofs.TraceLemmas.{along, state-last, lines-last}
 
 -- ---- the seed stays
@@ -98,19 +99,6 @@ size-more seed es e =
       length-append head lines,
     )
 
-shown-kept : (s : State) (t : Tables) (slots : SlotsView) → slots.slots ≡ t.slots.slots → IsKept s t → IsKept s (record t { slots = slots })
-shown-kept s t slots e k = record {
-  seed = k.seed;
-  objects = k.objects;
-  next = k.next;
-  pending = k.pending;
-  issued = k.issued;
-  being_made = k.being_made;
-  calls = k.calls;
-  slots = e ∙ k.slots;
-  notes = k.notes;
-}
-
 pub run-more : (seed : ℕ) (es es' : List Entry) (e : Entry) (spent : Bool) (size : ℕ) (t : Tables) (slots : SlotsView) (r : Readers)
     → seed < 2 ^ 60 → es' ≡ es ++ e ∷ [] → size ≡ journal_size seed es + length (entry_line e) → size ≤ max_journal
     → IsHeld (after (state_of (journal seed es)) e) t r → slots ≡ record t.slots { shown = map shown_of t.slots.slots }
@@ -127,7 +115,7 @@ run-more seed es es' e spent size t slots r fits longer grown limit h shows =
       slots_show = ap (λ (x : SlotsView). x.shown) shows ∙ ap (map shown_of) h.kept.slots ∙ ap (λ (x : State). map shown_of x.slots) next;
       held = λ u.
           subst (λ (x : State). IsHeld x (record t { slots = slots }) r) next
-          (record { sound = h.sound; kept = shown-kept s t slots (ap (λ (x : SlotsView). x.slots) shows) h.kept; read = h.read });
+          (record { sound = h.sound; kept = slots-are s t s.slots slots (ap (λ (x : SlotsView). x.slots) shows ∙ h.kept.slots) h.kept; read = h.read });
     }
 
 -- ---- room for what an entry draws

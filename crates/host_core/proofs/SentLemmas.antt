@@ -13,7 +13,8 @@ use Rattle.channel_msgs.specs.Read.{request_of}
 use Rattle.channel_msgs.specs.View.{RequestView}
 use Rattle.transcript.specs.declared.note.Note.{Note}
 use Rattle.transcript.specs.declared.note.Note.TheVariants as note
-use Rattle.host_core.specs.State.{State, start, Object, Owner, Call, Request, same_worker, next_call}
+use Rattle.host_core.specs.State.{State, start, Object, Owner, Call, Request, next_call}
+use Rattle.host_notes.specs.Keys.{same_worker}
 use Rattle.host_core.specs.Step.{Micro, step, opened, made, owner_settled, waiting_call_settled, new_request, request_issued}
 use Rattle.host_core.specs.Run.{Journal, state_of, notes_of}
 use Rattle.host_core.specs.Laws.{ids_to, id_read, id_sent, ids_sent}

@@ -10,14 +10,18 @@ use Rattle.ms_base.specs.declared.outcome.Outcome.{Outcome}
 use Rattle.ms_base.specs.declared.outcome.Outcome.TheVariants as outcome
 use Rattle.transcript.specs.declared.note.Note.{Note}
 use Rattle.transcript.specs.declared.note.Note.TheVariants as note
-use Rattle.host_core.specs.State.{State, start, Object, Owner, Call, Request, Slot, calls_of, next_call, issued, pending, settled, same_worker, up_slot, up_if, is_up_phase, call_settled_if, run_if, Entered}
+use Rattle.host_core.specs.State.{State, start, Object, Owner, Call, Request, Slot, calls_of, next_call, issued, pending, settled, up_slot, up_if, is_up_phase, call_settled_if, run_if, Entered}
+use Rattle.host_notes.specs.Keys.{same_worker}
 use Rattle.host_core.specs.Step.{Micro, step, noted, call_settled, made, opened, owner_settled, waiting_call_settled, new_slot, new_request, request_issued, serials_drawn, worker_wanted, started, bytes_joined}
-use Rattle.host_core.specs.Run.{Journal, same_call, state_of, Moment, notes_of, trace}
+use Rattle.host_core.specs.Run.{Journal, state_of, Moment, notes_of, trace}
+use Rattle.host_notes.specs.Keys.{same_call}
 use Rattle.host_core.specs.Answer.{known, new_worker, makes}
-use Rattle.host_core.specs.Laws.{numbers_from, AreNumbered, settles, owned_by, waits_for, times_settled, requests_waiting, starts_waiting, times_entered, ArePlaced, EachEnteredOnce, AreInOrder, has_serial, makes_serial, IsSound}
+use Rattle.host_core.specs.Laws.{numbers_from, AreNumbered, settles, owned_by, waits_for, times_settled, requests_waiting, starts_waiting, times_entered, ArePlaced, EachEnteredOnce, EachWaitsOrSettled, AreInOrder, has_serial, makes_serial, IsSound}
 use Rattle.host_core.proofs.Changes.{IsPlain, HasNext, entered, without, running_noted, Change, still, notes, refuses, wants, issues, starts, joins, accepts, rejects, runs, change}
-use Rattle.host_core.proofs.CountLemmas.{one_if, count-push, count-kept, AreFromOne, from_one-more, picked-more, picked-once}
-use Rattle.host_core.proofs.PartsLemmas.{same-itself, worker-same, ids-settled, count-settled, count-with_object, ascends-with_object, ascends-running, numbers_of, in_order-kept, waiting_slot, count-ran}
+use Rattle.host_core.specs.LookUps.{one_if}
+use Rattle.host_core.proofs.CountLemmas.{count-push, count-kept, AreFromOne, from_one-more, picked-more, picked-once}
+use Rattle.host_core.proofs.Keys.{same-itself, worker-same}
+use Rattle.host_core.proofs.PartsLemmas.{ids-settled, count-settled, count-with_object, ascends-with_object, ascends-running, numbers_of, in_order-kept, waiting_slot, count-ran}
 use Rattle.host_core.proofs.TraceLemmas.{along, along_steps, micros_in, before-trace}
 
 -- ---- calls, requests and slots in a row
@@ -104,9 +108,6 @@ is_open_of key r = not r.settled && owned_by key r.owner
 
 abbrev is_open_making : ℕ → Request → Bool
 is_open_making n r = not r.settled && makes_serial n r.makes
-
-abbrev is_call : CallKey → CallKey → Bool
-is_call key c = same_call c key
 
 abbrev is_up_of : WorkerKey → Slot → Bool
 is_up_of worker x = same_worker x.key worker && is_up_phase x.phase
@@ -275,45 +276,44 @@ module _ (s : State) (h : IsSound s) where
     }
 
   module _ (worker : WorkerKey) (x : Slot) (e : up_slot s.slots worker ≡ Some x) where
+    -- with these notes
+    sound-running : (ns : List Note) → EachWaitsOrSettled (record (running_noted x s) { notes = ns }) → IsSound (record (running_noted x s) { notes = ns })
+    sound-running ns each = record {
+      numbered = h.numbered;
+      waits_or_settled = each;
+      placed = h.placed;
+      entered_once = h.entered_once;
+      in_order = in_order-kept (call_settled_if x.key) (λ y. refl) s.slots h.in_order;
+      from_one = h.from_one;
+      drawn_once = λ n. omega (arith, h.drawn_once n, count-kept (has_serial n) (run_if x.worker) (λ o. refl) s.objects);
+      ascends = ascends-running x.worker s.objects h.ascends;
+    }
+
     -- with the call that waits for it written out
     sound-ran : (call : Option CallKey) → x.call ≡ call → IsSound (waiting_call_settled call (running_noted x s))
-    sound-ran None mine = record {
-      numbered = h.numbered;
-      waits_or_settled = λ key.
-          let here : one_if (waits_for key x.call) ≡ 0 = ap (λ c. one_if (waits_for key c)) mine in
-          omega (
-            arith,
-            here,
-            h.waits_or_settled key,
-            times-other key s.notes (note.Running x.name x.key.generation) refl,
-            count-ran key (is_up_of worker) x 1 (length s.slots) s.slots h.in_order e,
-          );
-      placed = h.placed;
-      entered_once = h.entered_once;
-      in_order = in_order-kept (call_settled_if x.key) (λ y. refl) s.slots h.in_order;
-      from_one = h.from_one;
-      drawn_once = λ n. omega (arith, h.drawn_once n, count-kept (has_serial n) (run_if x.worker) (λ o. refl) s.objects);
-      ascends = ascends-running x.worker s.objects h.ascends;
-    }
-    sound-ran (Some call) mine = record {
-      numbered = h.numbered;
-      waits_or_settled = λ key.
-          let here : one_if (waits_for key x.call) ≡ one_if (same_call call key) = ap (λ c. one_if (waits_for key c)) mine in
-          omega (
-            arith,
-            here,
-            h.waits_or_settled key,
-            times-other key s.notes (note.Running x.name x.key.generation) refl,
-            times-settled key (s.notes ++ note.Running x.name x.key.generation ∷ []) call outcome.Done,
-            count-ran key (is_up_of worker) x 1 (length s.slots) s.slots h.in_order e,
-          );
-      placed = h.placed;
-      entered_once = h.entered_once;
-      in_order = in_order-kept (call_settled_if x.key) (λ y. refl) s.slots h.in_order;
-      from_one = h.from_one;
-      drawn_once = λ n. omega (arith, h.drawn_once n, count-kept (has_serial n) (run_if x.worker) (λ o. refl) s.objects);
-      ascends = ascends-running x.worker s.objects h.ascends;
-    }
+    sound-ran None mine =
+        sound-running (s.notes ++ note.Running x.name x.key.generation ∷ [])
+        (λ key.
+        let here : one_if (waits_for key x.call) ≡ 0 = ap (λ c. one_if (waits_for key c)) mine in
+        omega (
+          arith,
+          here,
+          h.waits_or_settled key,
+          times-other key s.notes (note.Running x.name x.key.generation) refl,
+          count-ran key (is_up_of worker) x 1 (length s.slots) s.slots h.in_order e,
+        ))
+    sound-ran (Some call) mine =
+        sound-running (s.notes ++ note.Running x.name x.key.generation ∷ [] ++ note.Settled call outcome.Done ∷ [])
+        (λ key.
+        let here : one_if (waits_for key x.call) ≡ one_if (same_call call key) = ap (λ c. one_if (waits_for key c)) mine in
+        omega (
+          arith,
+          here,
+          h.waits_or_settled key,
+          times-other key s.notes (note.Running x.name x.key.generation) refl,
+          times-settled key (s.notes ++ note.Running x.name x.key.generation ∷ []) call outcome.Done,
+          count-ran key (is_up_of worker) x 1 (length s.slots) s.slots h.in_order e,
+        ))
 
 sound-change : {s t : State} → Change s t → IsSound s → IsSound t
 sound-change still h = h
@@ -359,18 +359,3 @@ settles-once j key =
     omega (arith, h.waits_or_settled key, h.entered_once key)
 
 -- ---- what follows of one state
-
--- no two requests of a channel have one id
-pub request-once : (s : State) → IsSound s → (w : WorkerKey) (id : ℕ) → count_by (λ (r : Request). same_worker r.channel w && (r.id == id)) s.requests ≤ 1
-request-once s h w id = picked-once (λ (r : Request). r.id) (λ (r : Request). same_worker r.channel w) id s.requests (h.numbered w)
-
--- no two objects have one serial
-pub object-once : (s : State) → IsSound s → (n : ℕ) → count_by (has_serial n) s.objects ≤ 1
-object-once s h n =
-    let few = h.drawn_once n in
-    let bounded : most n s.next ≤ 1 = one_at_most (nat_le 1 n && nat_lt n s.next) in
-    omega (arith, few, bounded)
-  where
-    one_at_most : (b : Bool) → one_if b ≤ 1
-    one_at_most true = omega arith
-    one_at_most false = omega arith

@@ -1,5 +1,5 @@
 -- The tables go with what is known, change by change.
-use Rattle.std.proofs.Common.{◌≡◌, ◌≤◌, ◌<◌, ℕ, zero, suc, ◌+◌, ◌-◌, nat_le, nat_lt, List, [], ◌∷◌, ◌++◌, length, take, Bool, true, false, not, ◌&&◌, ◌==◌, cond, Option, Some, None, Result, Ok, Err, OnOk, OnErr, refl, sym, ap, ◌∙◌, subst, subst₂, arith, add-zero, count_by, take-take, take_all, length-take, take_at}
+use Rattle.std.proofs.Common.{◌≡◌, ◌≤◌, ◌<◌, ℕ, zero, suc, ◌+◌, ◌-◌, nat_le, nat_lt, List, [], ◌∷◌, ◌++◌, length, take, Bool, true, false, not, ◌&&◌, ◌==◌, cond, Option, Some, None, refl, sym, ap, ◌∙◌, subst, subst₂, arith, add-zero, count_by, take-take, take_all, length-take}
 use Rattle.std.specs.List.{filter, find}
 use Rattle.std.specs.Option.{option_or}
 use Rattle.std.proofs.lemmas.Bool.{eqb-true, and_parts, and_left, and_right, not-true, true≢false}
@@ -11,16 +11,19 @@ use Rattle.ms_base.specs.declared.entry.Op.{Op}
 use Rattle.ms_base.specs.declared.keys.WorkerKey.{WorkerKey}
 use Rattle.transcript.specs.declared.note.Note.{Note}
 use Rattle.transcript.specs.declared.note.Note.TheVariants as note
-use Rattle.host_core.specs.Answer.{Known, known, makes}
-use Rattle.host_core.specs.LookUps.{ObjectsView, SlotsView, IsFresh, counted, waiting_at, issued_by, made_by, makes_named}
-use Rattle.host_core.specs.State.{State, with_object, Object, Request, Slot, Entered, same_worker, calls_of, next_call, as_serial, numbered, has_name, is_to_make, waits_as, pending, settled, issued, being_made}
+use Rattle.host_core.specs.Answer.{known, makes}
+use Rattle.host_core.specs.LookUps.{ObjectsView, SlotsView, IsFresh, counted, waiting_at, issued_by, made_by, makes_named, one_if}
+use Rattle.host_core.specs.State.{State, with_object, Object, Request, Slot, Entered, calls_of, next_call, as_serial, numbered, has_name, is_to_make, waits_as, pending, settled, issued, being_made}
+use Rattle.host_notes.specs.Keys.{same_worker}
 use Rattle.host_core.specs.Step.{noted, opened, object_added, request_issued, serials_drawn, call_entered}
 use Rattle.host_core.specs.Laws.{ids_to, numbers_from, AreNumbered, has_serial, makes_serial, is_drawn, IsSound}
 use Rattle.host_core.specs.Tables.{IsKept, Moves, ShowsTheSame, known_of}
 use Rattle.host_core.specs.declared.calls.Calls.{Calls}
 use Rattle.host_core.specs.declared.requests.Requests.{Requests}
 use Rattle.host_core.specs.declared.tables.Tables.{Tables}
-use Rattle.host_core.proofs.CountLemmas.{one_if, count-cons, count-push, count-picked, each-once}
+use Rattle.host_core.proofs.CountLemmas.{count-cons, count-push, count-picked, each-once}
+use Rattle.host_core.proofs.Keys.{same-itself, worker-same}
+use Rattle.host_core.proofs.PartsLemmas.{as_settled}
 
 -- ---- what the answer to a call is taken from
 
@@ -40,25 +43,7 @@ take-then a b c h k =
 pub shown-then : (a b c : Tables) → ShowsTheSame a b → ShowsTheSame b c → ShowsTheSame a c
 shown-then a b c h k = record { notes = take-then a.notes b.notes c.notes h.notes k.notes; slots = k.slots ∙ h.slots }
 
--- a note was pushed, or was not where memory ran out
-pub shown-pushed : {X : Type 0} (t : Tables) (n : Note) (ns : List Note) (r : Result Unit X) → OnOk r (ns ≡ t.notes ++ n ∷ []) → OnErr r (ns ≡ t.notes) → ShowsTheSame t (record t { notes = ns })
-shown-pushed t n ns (Ok x) h k = record { notes = ap (take (length t.notes)) h ∙ take_at t.notes (n ∷ []) (length t.notes) refl; slots = refl }
-shown-pushed t n ns (Err x) h k = record { notes = ap (take (length t.notes)) k ∙ take_all (length t.notes) t.notes (omega arith); slots = refl }
-
 -- ---- a note, a call, objects, slots
-
-pub noted-kept : (s : State) (t : Tables) (n : Note) (ns : List Note) → ns ≡ t.notes ++ n ∷ [] → IsKept s t → IsKept (noted n s) (record t { notes = ns })
-noted-kept s t n ns e k = record {
-  seed = k.seed;
-  objects = k.objects;
-  next = k.next;
-  pending = k.pending;
-  issued = k.issued;
-  being_made = k.being_made;
-  calls = k.calls;
-  slots = k.slots;
-  notes = e ∙ ap (λ (ms : List Note). ms ++ n ∷ []) k.notes;
-}
 
 one-more : (b : Bool) (n : ℕ) → n + one_if b ≡ cond b (n + 1) n
 one-more true n = refl
@@ -82,12 +67,12 @@ entered-kept s t lane o cs e k =
       notes = k.notes;
     }
 
-pub objects-kept : (s : State) (t : Tables) (f : List Object → List Object) (os : ObjectsView) → os ≡ record t.objects { objects = f t.objects.objects }
-    → IsKept s t → IsKept (record s { objects = f s.objects }) (record t { objects = os })
-objects-kept s t f os e k = record {
+objects-are : (s : State) (t : Tables) (xs : List Object) (n : ℕ) (os : ObjectsView) → os.objects ≡ xs → os.next ≡ n
+    → IsKept s t → IsKept (record s { objects = xs; next = n }) (record t { objects = os })
+objects-are s t xs n os e f k = record {
   seed = k.seed;
-  objects = ap (λ (v : ObjectsView). v.objects) e ∙ ap f k.objects;
-  next = ap (λ (v : ObjectsView). v.next) e ∙ k.next;
+  objects = e;
+  next = f;
   pending = k.pending;
   issued = k.issued;
   being_made = k.being_made;
@@ -95,24 +80,21 @@ objects-kept s t f os e k = record {
   slots = k.slots;
   notes = k.notes;
 }
+
+pub objects-kept : (s : State) (t : Tables) (f : List Object → List Object) (os : ObjectsView) → os ≡ record t.objects { objects = f t.objects.objects }
+    → IsKept s t → IsKept (record s { objects = f s.objects }) (record t { objects = os })
+objects-kept s t f os e k =
+    objects-are s t (f s.objects) s.next os (ap (λ (v : ObjectsView). v.objects) e ∙ ap f k.objects) (ap (λ (v : ObjectsView). v.next) e ∙ k.next) k
 
 pub drawn-kept : (s : State) (t : Tables) (os : ObjectsView) → os ≡ record t.objects { next = t.objects.next + 1 }
     → IsKept s t → IsKept (record s { next = s.next + 1 }) (record t { objects = os })
-drawn-kept s t os e k = record {
-  seed = k.seed;
-  objects = ap (λ (v : ObjectsView). v.objects) e ∙ k.objects;
-  next = ap (λ (v : ObjectsView). v.next) e ∙ ap (λ n. n + 1) k.next;
-  pending = k.pending;
-  issued = k.issued;
-  being_made = k.being_made;
-  calls = k.calls;
-  slots = k.slots;
-  notes = k.notes;
-}
+drawn-kept s t os e k =
+    objects-are s t s.objects (s.next + 1) os (ap (λ (v : ObjectsView). v.objects) e ∙ k.objects)
+    (ap (λ (v : ObjectsView). v.next) e ∙ ap (λ n. n + 1) k.next) k
 
-pub slots-kept : (s : State) (t : Tables) (f : List Slot → List Slot) (xs : SlotsView) → xs ≡ record t.slots { slots = f t.slots.slots }
-    → IsKept s t → IsKept (record s { slots = f s.slots }) (record t { slots = xs })
-slots-kept s t f xs e k = record {
+pub slots-are : (s : State) (t : Tables) (xs : List Slot) (slots : SlotsView) → slots.slots ≡ xs
+    → IsKept s t → IsKept (record s { slots = xs }) (record t { slots = slots })
+slots-are s t xs slots e k = record {
   seed = k.seed;
   objects = k.objects;
   next = k.next;
@@ -120,18 +102,13 @@ slots-kept s t f xs e k = record {
   issued = k.issued;
   being_made = k.being_made;
   calls = k.calls;
-  slots = ap (λ (v : SlotsView). v.slots) e ∙ ap f k.slots;
+  slots = e;
   notes = k.notes;
 }
 
--- ---- keys
-
-pub worker-same : (a b : WorkerKey) → same_worker a b ≡ true → a ≡ b
-worker-same a b h =
-    let parts = and_parts (a.slot == b.slot) (a.generation == b.generation) h in
-    let slot = eqb-true a.slot b.slot parts.0 in
-    let generation = eqb-true a.generation b.generation parts.1 in
-    λ i. record { slot = slot i; generation = generation i }
+pub slots-kept : (s : State) (t : Tables) (f : List Slot → List Slot) (xs : SlotsView) → xs ≡ record t.slots { slots = f t.slots.slots }
+    → IsKept s t → IsKept (record s { slots = f s.slots }) (record t { slots = xs })
+slots-kept s t f xs e k = slots-are s t (f s.slots) xs (ap (λ (v : SlotsView). v.slots) e ∙ ap f k.slots) k
 
 -- ---- lists
 
@@ -204,29 +181,35 @@ module _ (rs : List Request) (r : Request) (fresh : r.settled ≡ false) where
   being_made-more name =
       count-push (is_to_make name) rs r ∙ ap (λ b. being_made rs name + one_if b) (not-and r.settled (has_name name r.makes) fresh)
 
-pub issued-kept : (s : State) (t : Tables) (r : Request) (rs : Requests) → r.settled ≡ false → waiting_at t.requests r.channel r.id ≡ None
-    → ((w : WorkerKey) (id : ℕ) → waiting_at rs w id ≡ cond (same_worker r.channel w && (r.id == id)) (Some r) (waiting_at t.requests w id))
-    → ((w : WorkerKey) → issued_by rs w ≡ cond (same_worker r.channel w) (issued_by t.requests w + 1) (issued_by t.requests w))
-    → ((name : List ℕ) → made_by rs name ≡ made_by t.requests name + one_if (has_name name r.makes))
-    → IsKept s t → IsKept (record s { requests = s.requests ++ r ∷ [] }) (record t { requests = rs })
-issued-kept s t r rs fresh free waits counts makes k = record {
+requests-are : (s : State) (t : Tables) (rs : List Request) (qs : Requests)
+    → ((w : WorkerKey) (id : ℕ) → waiting_at qs w id ≡ pending rs w id) → ((w : WorkerKey) → issued_by qs w ≡ issued rs w)
+    → ((name : List ℕ) → made_by qs name ≡ being_made rs name) → IsKept s t → IsKept (record s { requests = rs }) (record t { requests = qs })
+requests-are s t rs qs waits counts makes k = record {
   seed = k.seed;
   objects = k.objects;
   next = k.next;
-  pending = λ w id.
-      waits w id ∙ ap (cond (same_worker r.channel w && (r.id == id)) (Some r)) (k.pending w id)
-      ∙ pending-more s.requests r fresh w id (sym (k.pending r.channel r.id) ∙ free);
-  issued = λ w. counts w ∙ ap (λ n. cond (same_worker r.channel w) (n + 1) n) (k.issued w) ∙ sym (issued-more s.requests r fresh w);
-  being_made = λ name. makes name ∙ ap (λ n. n + one_if (has_name name r.makes)) (k.being_made name) ∙ sym (being_made-more s.requests r fresh name);
+  pending = waits;
+  issued = counts;
+  being_made = makes;
   calls = k.calls;
   slots = k.slots;
   notes = k.notes;
 }
 
--- ---- a request that is settled
+pub issued-kept : (s : State) (t : Tables) (r : Request) (rs : Requests) → r.settled ≡ false → waiting_at t.requests r.channel r.id ≡ None
+    → ((w : WorkerKey) (id : ℕ) → waiting_at rs w id ≡ cond (same_worker r.channel w && (r.id == id)) (Some r) (waiting_at t.requests w id))
+    → ((w : WorkerKey) → issued_by rs w ≡ cond (same_worker r.channel w) (issued_by t.requests w + 1) (issued_by t.requests w))
+    → ((name : List ℕ) → made_by rs name ≡ made_by t.requests name + one_if (has_name name r.makes))
+    → IsKept s t → IsKept (record s { requests = s.requests ++ r ∷ [] }) (record t { requests = rs })
+issued-kept s t r rs fresh free waits counts makes k =
+    requests-are s t (s.requests ++ r ∷ []) rs
+    (λ w id.
+    waits w id ∙ ap (cond (same_worker r.channel w && (r.id == id)) (Some r)) (k.pending w id)
+    ∙ pending-more s.requests r fresh w id (sym (k.pending r.channel r.id) ∙ free))
+    (λ w. counts w ∙ ap (λ n. cond (same_worker r.channel w) (n + 1) n) (k.issued w) ∙ sym (issued-more s.requests r fresh w))
+    (λ name. makes name ∙ ap (λ n. n + one_if (has_name name r.makes)) (k.being_made name) ∙ sym (being_made-more s.requests r fresh name)) k
 
-abbrev as_settled : Request → Request
-as_settled r = record r { settled = true }
+-- ---- a request that is settled
 
 module _ (w : WorkerKey) (id : ℕ) where
   no_more : (rs : List Request) → count_by (waits_as w id) rs ≤ 1 → pending (settled w id rs) w id ≡ None
@@ -299,15 +282,6 @@ module _ (w : WorkerKey) (id : ℕ) where
               subst₂ (λ (u : WorkerKey) (j : ℕ). (same_worker u v && (j == i) && not r.settled) ≡ false) (sym (worker-same r.channel w keys.0)) (sym (eqb-true r.id id keys.1))
               (and_left (same_worker w v && (id == i)) (not r.settled) e)
 
-  -- where none waits, nothing changes
-  pub settled-none : (rs : List Request) → pending rs w id ≡ None → settled w id rs ≡ rs
-  settled-none [] h = refl
-  settled-none (r ∷ rs) h = at (waits_as w id r) h (settled-none rs)
-    where
-      at : (b : Bool) → cond b (Some r) (pending rs w id) ≡ None → (pending rs w id ≡ None → settled w id rs ≡ rs) → cond b (as_settled r ∷ rs) (r ∷ settled w id rs) ≡ r ∷ rs
-      at true e later = absurd cc
-      at false e later = ap (λ (xs : List Request). r ∷ xs) (later e)
-
 less : (a b c n : ℕ) → a + b ≡ c → n ≡ c - b → n ≡ a
 less a b c n e f = omega arith
 
@@ -316,21 +290,15 @@ pub settled-kept : (s : State) (t : Tables) (w : WorkerKey) (id : ℕ) (rs : Req
     → ((v : WorkerKey) → issued_by rs v ≡ issued_by t.requests v)
     → ((name : List ℕ) → made_by rs name ≡ made_by t.requests name - one_if (makes_named name (waiting_at t.requests w id)))
     → IsKept s t → IsKept (record s { requests = settled w id s.requests }) (record t { requests = rs })
-settled-kept s t w id rs once waits counts makes k = record {
-  seed = k.seed;
-  objects = k.objects;
-  next = k.next;
-  pending = λ v i. waits v i ∙ ap (cond (same_worker w v && (id == i)) None) (k.pending v i) ∙ pending-settled w id s.requests once v i;
-  issued = λ v. counts v ∙ k.issued v ∙ sym (issued-settled w id v s.requests);
-  being_made = λ name.
-      less (being_made (settled w id s.requests) name) (one_if (makes_named name (pending s.requests w id))) (being_made s.requests name) (made_by rs name)
-      (being_made-settled w id name s.requests)
-      (makes name ∙ ap (λ (o : Option Request). made_by t.requests name - one_if (makes_named name o)) (k.pending w id)
-      ∙ ap (λ n. n - one_if (makes_named name (pending s.requests w id))) (k.being_made name));
-  calls = k.calls;
-  slots = k.slots;
-  notes = k.notes;
-}
+settled-kept s t w id rs once waits counts makes k =
+    requests-are s t (settled w id s.requests) rs
+    (λ v i. waits v i ∙ ap (cond (same_worker w v && (id == i)) None) (k.pending v i) ∙ pending-settled w id s.requests once v i)
+    (λ v. counts v ∙ k.issued v ∙ sym (issued-settled w id v s.requests))
+    (λ name.
+    less (being_made (settled w id s.requests) name) (one_if (makes_named name (pending s.requests w id))) (being_made s.requests name) (made_by rs name)
+    (being_made-settled w id name s.requests)
+    (makes name ∙ ap (λ (o : Option Request). made_by t.requests name - one_if (makes_named name o)) (k.pending w id)
+    ∙ ap (λ n. n - one_if (makes_named name (pending s.requests w id))) (k.being_made name))) k
 
 -- ---- what is sound
 
@@ -378,9 +346,6 @@ drawn-parts n next h = (grind (arith, nat_tests), grind (arith, nat_tests))
 
 undrawn : (n : ℕ) → one_if (nat_le 1 n && nat_lt n n) ≡ 0
 undrawn n = grind (arith, nat_tests)
-
-same-itself : (n : ℕ) → (n == n) ≡ true
-same-itself n = grind (arith, nat_tests)
 
 module _ (s : State) (h : IsSound s) where
   -- the next serial is that of no object

@@ -1,9 +1,8 @@
 -- What a call comes to: its first refusal, a start, or a request to a worker. This project's own.
-use Rattle.std.specs.Prelude.{ℕ, ◌+◌, List, [], ◌∷◌, length, Bool, true, false, not, ◌||◌, ◌==◌, nat_le, nat_lt, if◌then◌else◌, Option, Some, None, option_map, is_some, codes}
+use Rattle.std.specs.Prelude.{ℕ, ◌+◌, List, [], ◌∷◌, length, Bool, false, not, ◌||◌, nat_le, nat_lt, if◌then◌else◌, Option, Some, None, option_map, is_some, codes}
 use Rattle.std.specs.List.{list_any, list_all}
 use Rattle.serde_json.specs.Data.{Data}
 use Rattle.serde_json.specs.Written.{compact_text}
-use Rattle.ms_base.specs.declared.keys.CallKey.{CallKey}
 use Rattle.ms_base.specs.Kinds.{same_kind}
 use Rattle.ms_base.specs.declared.keys.Kind.{Kind}
 use Rattle.ms_base.specs.declared.keys.Kind.TheVariants as kind
@@ -18,7 +17,7 @@ use Rattle.channel_frames.specs.Frames.{max_payload}
 use Rattle.channel_msgs.specs.Json.{request_json}
 use Rattle.channel_msgs.specs.Read.{max_id}
 use Rattle.channel_msgs.specs.declared.message.Ids.{Ids}
-use Rattle.host_core.specs.State.{State, Object, Owner, Request, Slot, named, issued, being_made, channel_of, object_id, as_serial}
+use Rattle.host_core.specs.State.{State, Object, Slot, named, issued, being_made, channel_of, object_id, as_serial}
 
 -- how many slots there may be
 abbrev pub max_slots : ℕ

@@ -9,9 +9,11 @@ use Rattle.channel_msgs.specs.Read.{request_of}
 use Rattle.channel_msgs.specs.View.{RequestView}
 use Rattle.transcript.specs.declared.note.Note.{Note}
 use Rattle.transcript.specs.declared.note.Note.TheVariants as note
-use Rattle.host_core.specs.State.{State, Object, Owner, Call, Entered, Request, Slot, same_worker, next_call}
+use Rattle.host_core.specs.State.{State, Object, Owner, Call, Entered, Request, Slot, next_call}
+use Rattle.host_notes.specs.Keys.{same_worker}
 use Rattle.host_core.specs.Answer.{makes}
-use Rattle.host_core.specs.Run.{Journal, same_call}
+use Rattle.host_core.specs.Run.{Journal}
+use Rattle.host_notes.specs.Keys.{same_call}
 
 -- the numbers from n on, so many of them
 abbrev pub numbers_from : ℕ → ℕ → List ℕ

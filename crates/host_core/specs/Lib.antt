@@ -2,7 +2,6 @@ pub mod Answer
 pub mod Apply
 pub mod Laws
 pub mod LookUps
-pub mod NoteIndexes
 pub mod Places
 pub mod Rows
 pub mod Run

@@ -1,18 +1,14 @@
 -- What the parts of the code's tables tell: the look-ups by which they are tied to what the host knows.
 -- This project's own.
-use Rattle.std.specs.Option.{option_map_or}
-use Rattle.std.specs.Prelude.{◌≡◌, ◌≤◌, ◌<◌, ◌+◌, ℕ, List, [], length, map, find, Bool, true, false, if◌then◌else◌, Option, Some, None, Vec, vec_capacity, unwrap_or, nat_eq, ◌&&◌, ⊤}
+use Rattle.std.specs.Prelude.{◌≡◌, ◌≤◌, ◌<◌, ℕ, List, [], length, map, Bool, true, false, if◌then◌else◌, Option, Some, None, option_map, option_and_then, slice_get, Box, Vec, vec_capacity, unwrap_or, nat_eq, ◌&&◌, zero, suc}
 use Rattle.std.specs.Cmp.Lexicographic.{slice_cmp}
 use Rattle.std.specs.Ordering.{nat_cmp}
 use Rattle.std.specs.BTreeMap.{get_by, get}
 use Rattle.std.specs.HashMap as hash
 use Rattle.ms_base.specs.declared.keys.WorkerKey.{WorkerKey}
-use Rattle.channel_frames.specs.Frames.{max_payload}
-use Rattle.transcript.specs.declared.note.Note.{Note}
-use Rattle.transcript.specs.declared.note.Note.TheVariants as note
-use Rattle.host_core.specs.State.{Object, Request, Slot, Phase, Wanted, Up, same_worker, numbered, has_name}
+use Rattle.channel_frames.specs.Reading.{Reading}
+use Rattle.host_core.specs.State.{Object, Request, Slot, Phase, Wanted, Up, numbered, has_name}
 use Rattle.host_core.specs.declared.calls.Calls.{Calls}
-use Rattle.host_core.specs.declared.readers.Reader.{Reader}
 use Rattle.host_core.specs.declared.readers.Readers.{Readers}
 use Rattle.host_core.specs.declared.requests.Requests.{Requests}
 use Rattle.host_core.specs.declared.requests.names.NamesBeingMade.{NamesBeingMade}
@@ -40,18 +36,28 @@ pub record IsFresh (o : ObjectsView) (object : Object) : Type 0 where
   pub none : numbered o.objects object.serial ≡ None
 
 -- ---- requests
-abbrev pub same_channel_id : ℕ × ℕ × ℕ → ℕ × ℕ × ℕ → Bool
-same_channel_id a b = nat_eq a.0 b.0 && nat_eq a.1 b.1 && nat_eq a.2 b.2
-
 abbrev pub same_channel : ℕ × ℕ → ℕ × ℕ → Bool
 same_channel a b = nat_eq a.0 b.0 && nat_eq a.1 b.1
 
+-- what is kept of the requests of a channel, each at the place of its id, from 1
+abbrev pub places_of : {Y Z : Type 0} → Option (Vec (Option (Box Request Y)) Z) → List (Option (Box Request Y))
+places_of None = []
+places_of (Some places) = places.items
+
+abbrev pub unboxed : {Y : Type 0} → Option (Box Request Y) → Option Request
+unboxed o = option_map (λ b. b.value) o
+
+-- the request of an id that waits
+abbrev pub waiting_in : {Y : Type 0} → List (Option (Box Request Y)) → ℕ → Option Request
+waiting_in places zero = None
+waiting_in places (suc k) = option_and_then unboxed (slice_get places k)
+
 -- the request that a response of this id settles
 abbrev pub waiting_at : Requests → WorkerKey → ℕ → Option Request
-waiting_at r w id = hash.get same_channel_id r.waiting (w.slot, w.generation, id)
+waiting_at r w id = waiting_in (places_of (hash.get same_channel r.channels (w.slot, w.generation))) id
 
 abbrev pub issued_by : Requests → WorkerKey → ℕ
-issued_by r w = unwrap_or (hash.get same_channel r.issued (w.slot, w.generation)) 0
+issued_by r w = length (places_of (hash.get same_channel r.channels (w.slot, w.generation)))
 
 abbrev pub count_of : NamesBeingMade → List ℕ → ℕ
 count_of n name = unwrap_or (get_by (λ k. slice_cmp nat_cmp name k.items) n.counts) 0
@@ -85,13 +91,9 @@ pub record MayShow {Y : Type 0} (slots : List Slot) (shown : Vec Shown Y) (fresh
   pub same : fresh ≡ true → map shown_view shown.items ≡ map shown_of slots
 
 -- ---- readers
-abbrev pub unread_in : Option Reader → List ℕ
-unread_in o = option_map_or (λ (x : Reader). x.reader.unread) o []
+abbrev pub unread_in : Option Reading → List ℕ
+unread_in None = []
+unread_in (Some reader) = reader.unread
 
 abbrev pub unread_of : Readers → WorkerKey → List ℕ
-unread_of r w = unread_in (find (λ x. same_worker x.worker w) r.items.items)
-
--- ---- notes: a request's payload is within its limit
-abbrev pub IsShort : Note → Type 0
-IsShort (note.Sent worker payload) = length payload ≤ max_payload
-IsShort other = ⊤
+unread_of r w = unread_in (hash.get same_channel r.items (w.slot, w.generation))

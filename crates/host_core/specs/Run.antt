@@ -1,20 +1,17 @@
 -- A whole journal: its micro steps, what the host knows and has noted after them, and what is read off the notes.
 -- This project's own.
-use Rattle.std.specs.Prelude.{ℕ, ◌+◌, ◌-◌, List, [], ◌∷◌, ◌++◌, length, map, drop, Bool, not, ◌&&◌, ◌==◌, nat_le, if◌then◌else◌, Option, Some, None, flat_map, slice_get}
-use Rattle.ms_base.specs.Outcome.{verdict_of_outcome}
+use Rattle.std.specs.Prelude.{ℕ, ◌-◌, List, [], ◌∷◌, ◌++◌, length, map, drop, Bool, not, ◌&&◌, nat_le, if◌then◌else◌, Option, Some, None, flat_map, slice_get}
 use Rattle.ms_base.specs.declared.applied.SlotLook.{SlotLook}
 use Rattle.ms_base.specs.declared.applied.SlotLook.TheVariants as look
-use Rattle.ms_base.specs.declared.keys.CallKey.{CallKey}
 use Rattle.ms_base.specs.declared.keys.WorkerKey.{WorkerKey}
 use Rattle.ms_base.specs.declared.entry.Entry.{Entry}
 use Rattle.ms_base.specs.declared.entry.Entry.TheVariants as entry
-use Rattle.ms_base.specs.declared.outcome.Verdict.{Verdict}
-use Rattle.channel_frames.specs.Frames.{frame, new_frames, is_broken}
+use Rattle.channel_frames.specs.Frames.{new_frames, is_broken}
 use Rattle.channel_msgs.specs.Read.{message_of}
 use Rattle.transcript.specs.Lines.{note_line}
 use Rattle.transcript.specs.declared.note.Note.{Note}
-use Rattle.transcript.specs.declared.note.Note.TheVariants as note
-use Rattle.host_core.specs.State.{State, start, Slot, Phase, Wanted, Up, same_worker, is_up, is_wanted, stream_of}
+use Rattle.host_core.specs.State.{State, start, Slot, Phase, Wanted, Up, is_up, is_wanted, stream_of}
+use Rattle.host_notes.specs.Sent.{sent_of}
 use Rattle.host_core.specs.Step.{Micro, Calls, Starting, Comes, Says, Breaks, step, steps}
 
 -- The journal of a host: the seed of its ids, and all that it has heard.
@@ -86,32 +83,6 @@ trace_from s (e ∷ es) = moments s (micros s e) ++ trace_from (after s e) es
 
 abbrev pub trace : Journal → List Moment
 trace j = trace_from (start j.seed) j.entries
-
--- ---- the bytes that go to a worker: the frames of its requests
-
-abbrev pub payload_to : WorkerKey → Note → List ℕ
-payload_to worker (note.Sent to payload) = if same_worker to worker then frame payload else []
-payload_to worker other = []
-
-abbrev pub sent_of : List Note → WorkerKey → List ℕ
-sent_of notes worker = flat_map (payload_to worker) notes
-
--- ---- the verdict of a call: that of its `settled` note
-
-abbrev pub same_call : CallKey → CallKey → Bool
-same_call a b = (a.lane == b.lane) && (a.place == b.place)
-
-abbrev pub settled_in : CallKey → Note → Option Verdict
-settled_in key (note.Settled call outcome) = if same_call call key then Some (verdict_of_outcome outcome) else None
-settled_in key other = None
-
-abbrev pub first_of_two : Option Verdict → Option Verdict → Option Verdict
-first_of_two (Some v) rest = Some v
-first_of_two None rest = rest
-
-abbrev pub verdict_in : List Note → CallKey → Option Verdict
-verdict_in [] key = None
-verdict_in (n ∷ ns) key = first_of_two (settled_in key n) (verdict_in ns key)
 
 -- ---- the state of a slot
 

@@ -9,6 +9,7 @@ use Rattle.ms_base.specs.declared.keys.Reason.{Reason}
 use Rattle.ms_base.specs.declared.keys.Serial.{Serial}
 use Rattle.ms_base.specs.declared.keys.WorkerKey.{WorkerKey}
 use Rattle.transcript.specs.declared.note.Note.{Note}
+use Rattle.host_notes.specs.Keys.{same_worker}
 
 -- An object of the tree, open or closed.
 pub record Object : Type 0 where
@@ -98,9 +99,6 @@ abbrev pub start : ℕ → State
 start seed = record { seed = seed; objects = []; requests = []; calls = []; slots = []; streams = []; notes = []; next = 1 }
 
 -- ---- keys
-
-abbrev pub same_worker : WorkerKey → WorkerKey → Bool
-same_worker a b = (a.slot == b.slot) && (a.generation == b.generation)
 
 abbrev pub same_serial : Serial → Serial → Bool
 same_serial a b = a.0 == b.0

@@ -9,7 +9,7 @@ use Rattle.ms_base.specs.declared.outcome.Outcome.TheVariants as outcome
 use Rattle.channel_msgs.specs.View.{MessageView, reply, notice, log, rtp, AnswerView, accepted, refused, NoticeView}
 use Rattle.transcript.specs.declared.note.Note.{Note}
 use Rattle.transcript.specs.declared.note.Note.TheVariants as note
-use Rattle.host_core.specs.State.{State, Object, Owner, Call, Request, Slot, Wanted, Stream, next_call, as_serial, with_object, with_running, is_running, pending, settled, up_slot, with_up, with_call_settled, stream_of, with_stream}
+use Rattle.host_core.specs.State.{State, Object, Owner, Call, Request, Slot, Wanted, next_call, as_serial, with_object, with_running, is_running, pending, settled, up_slot, with_up, with_call_settled, stream_of, with_stream}
 use Rattle.host_core.specs.Answer.{known, Answer, Refuses, AddsWorker, Issues, answer, makes, new_worker}
 
 -- What the host may hear in one step.

@@ -1,6 +1,6 @@
 -- How the code keeps what the host knows: unsettled requests alone, counts by channel and by lane, and of each stream
 -- what waits for the rest of its frame. This project's own.
-use Rattle.std.specs.Prelude.{◌≡◌, ◌≤◌, ◌<◌, ◌+◌, ◌^◌, ℕ, List, ◌∷◌, length, map, take, Bool, false, Option, None, option_map, ⊤, ◌++◌, ◌&&◌}
+use Rattle.std.specs.Prelude.{◌≡◌, ◌≤◌, ◌<◌, ◌+◌, ◌^◌, ℕ, List, length, map, take, Bool, false, None, option_map, ⊤, ◌++◌, ◌&&◌}
 use Rattle.serde_json.specs.View.{view}
 use Rattle.serde_json.specs.Written.{has_float}
 use Rattle.ms_base.specs.declared.keys.WorkerKey.{WorkerKey}
@@ -10,8 +10,7 @@ use Rattle.channel_frames.specs.Frames.{max_payload, rest_of, is_broken}
 use Rattle.channel_msgs.specs.Json.{request_json}
 use Rattle.channel_msgs.specs.Read.{max_id}
 use Rattle.journal_text.specs.Written.{journal_size, max_journal}
-use Rattle.transcript.specs.declared.note.Note.{Note}
-use Rattle.host_core.specs.State.{State, Phase, numbered, as_serial, pending, issued, being_made, calls_of, stream_of, is_up}
+use Rattle.host_core.specs.State.{State, numbered, as_serial, pending, issued, being_made, calls_of, stream_of, is_up}
 use Rattle.host_core.specs.Answer as answers
 use Rattle.host_core.specs.Answer.{Known, max_slots}
 use Rattle.host_core.specs.Laws.{IsSound}

@@ -92,10 +92,14 @@ impl Tables {
         ensures { IfOk result (λ b. built_view b ≡ build (known_of self.now) (operation.Worker name.now budget)) }
     {
         if self.is_taken(name) {
-            return Ok(refused(Outcome::NameTaken));
+            return Ok(Built::Refused {
+                outcome: Outcome::NameTaken,
+            });
         }
         if self.slots.len() >= MAX_SLOTS {
-            return Ok(refused(Outcome::TypeError { code: Code::Slots }));
+            return Ok(Built::Refused {
+                outcome: Outcome::TypeError { code: Code::Slots },
+            });
         }
         Ok(Built::NewWorker {
             name: name.copy(self.alloc)?,
@@ -108,16 +112,24 @@ impl Tables {
         ensures { (options : List ℕ) → IfOk result (λ b. built_view b ≡ build (known_of self.now) (operation.Router name.now worker.now options)) }
     {
         if self.is_taken(name) {
-            return Ok(refused(Outcome::NameTaken));
+            return Ok(Built::Refused {
+                outcome: Outcome::NameTaken,
+            });
         }
         let Some(found) = self.objects.named(worker.as_slice()) else {
-            return Ok(refused(Outcome::NoName));
+            return Ok(Built::Refused {
+                outcome: Outcome::NoName,
+            });
         };
         if found.kind != Kind::Worker {
-            return Ok(refused(Outcome::WrongKind));
+            return Ok(Built::Refused {
+                outcome: Outcome::WrongKind,
+            });
         }
         if found.closed.is_some() || !found.running {
-            return Ok(refused(Outcome::InvalidState));
+            return Ok(Built::Refused {
+                outcome: Outcome::InvalidState,
+            });
         }
         let ask = self.router_ask(name, found)?;
         Ok(Built::Asked { ask })
@@ -182,17 +194,23 @@ impl Tables {
         ensures { IfOk result (λ a. answer_view a ≡ answer_to (known_of self.now) (answers.Asked (ask_view ask))) }
     {
         let Some(channel) = self.slots.channel_of(ask.worker) else {
-            return Ok(refuses(Outcome::InvalidState));
+            return Ok(Answer::Refuses {
+                outcome: Outcome::InvalidState,
+            });
         };
         let before = self.requests.issued(channel);
-        if before == u32::MAX {
-            return Ok(refuses(Outcome::IdsSpent));
+        if before >= u32::MAX as usize {
+            return Ok(Answer::Refuses {
+                outcome: Outcome::IdsSpent,
+            });
         }
-        let id = before + 1;
+        let id = before as u32 + 1;
         let request = Request { id, ..ask.request };
         let payload = write_request(self.alloc, &request)?;
         if payload.len() > MAX_PAYLOAD {
-            return Ok(refuses(Outcome::TooBig));
+            return Ok(Answer::Refuses {
+                outcome: Outcome::TooBig,
+            });
         }
         Ok(Answer::Issues {
             under: ask.under,
@@ -202,16 +220,4 @@ impl Tables {
             payload,
         })
     }
-}
-
-fn refused(outcome: Outcome) -> Built
-    ensures { built_view result ≡ answers.Refused outcome }
-{
-    Built::Refused { outcome }
-}
-
-fn refuses(outcome: Outcome) -> Answer
-    ensures { answer_view result ≡ answers.Refuses outcome }
-{
-    Answer::Refuses { outcome }
 }

@@ -8,8 +8,11 @@ ghost use Rattle.transcript.specs.Lines.{note_line};
 ghost use Rattle.host_core.specs.Apply.{fault_of, size_with};
 ghost use Rattle.host_core.specs.Tables.{BreaksNone, HasRoom, Goes, Moves, IsHeld, ShowsTheSame};
 ghost use Rattle.host_core.specs.LookUps.{unread_of};
-ghost use Rattle.host_core.specs.Run.{with_entry, after, state_of, notes_of, transcript_of, sent_of, verdict_in, slot_look, look_at};
-ghost use Rattle.host_core.specs.State.{State, is_up, same_worker};
+ghost use Rattle.host_core.specs.Run.{with_entry, after, state_of, notes_of, transcript_of, slot_look, look_at};
+ghost use Rattle.host_notes.specs.Sent.{sent_of};
+ghost use Rattle.host_notes.specs.Verdicts.{verdict_in};
+ghost use Rattle.host_core.specs.State.{State, is_up};
+ghost use Rattle.host_notes.specs.Keys.{same_worker};
 ghost use Rattle.host_core.specs.Step.{Says, steps};
 
 use crate::laws::draws_are_bounded;
@@ -113,7 +116,14 @@ impl Host {
     {
         frames_of_a_cut_stream();
         match entry {
-            Entry::Call { op, .. } => is_unbuilt_op(op),
+            Entry::Call {
+                op: Op::Worker { budget, .. },
+                ..
+            } => *budget != 0,
+            Entry::Call {
+                op: Op::Router { options, .. },
+                ..
+            } => options.as_str() != "{\"mediaCodecs\":[]}",
             Entry::Spawned { worker, up } => !*up && self.tables.slots.is_wanted(*worker),
             Entry::Chunk { worker, bytes } => {
                 self.tables.slots.is_up(*worker)
@@ -219,16 +229,6 @@ impl Host {
                 sent: self.sent(shown.key).len() as u64,
             },
         }
-    }
-}
-
-// Whether a call is of a kind that is not built yet.
-fn is_unbuilt_op(op: &Op) -> bool
-    ensures { result ≡ Rattle.host_core.specs.Apply.is_unbuilt_op op.now }
-{
-    match op {
-        Op::Worker { budget, .. } => *budget != 0,
-        Op::Router { options, .. } => options.as_str() != "{\"mediaCodecs\":[]}",
     }
 }
 

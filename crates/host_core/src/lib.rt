@@ -5,7 +5,6 @@ mod answer;
 mod calls;
 mod host;
 mod laws;
-mod notes;
 mod objects;
 mod readers;
 mod requests;

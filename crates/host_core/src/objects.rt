@@ -1,7 +1,7 @@
 ghost use Rattle.std.specs.Prelude.{◌≡◌, ◌⊎◌, ◌+◌, ◌^◌, ◌<◌, ℕ, List, [], OnOk, OnErr, IfOk, MatchOption, Some, true, option_copied, if◌then◌else◌};
 ghost use Rattle.host_core.specs.LookUps.{IsFresh};
 ghost use Rattle.host_core.specs.Places.{IsFreePlace, as_running, greatest, object_at, raised, serial_of};
-ghost use Rattle.host_core.specs.State.{named, numbered, is_running, with_object, with_running};
+ghost use Rattle.host_core.specs.State.{named, is_running, with_object, with_running};
 
 use ms_base::{Id, Kind, Name, NoMemory, Reason, Serial};
 use std::alloc::Global;
@@ -105,7 +105,7 @@ impl Objects {
         ensures { option_copied result ≡ named self.now.objects name.now }
     {
         let serial = self.names.get(name)?;
-        self.numbered(Serial(*serial))
+        object_at(self.places.as_slice(), Serial(*serial))
     }
 
     /// Whether the object of a serial is running.
@@ -126,13 +126,6 @@ impl Objects {
             return;
         };
         mark(&mut self.places[place]);
-    }
-
-    // The object of a serial.
-    fn numbered(&self, serial: Serial) -> Option<&Object>
-        ensures { option_copied result ≡ numbered self.now.objects serial }
-    {
-        object_at(self.places.as_slice(), serial)
     }
 }
 

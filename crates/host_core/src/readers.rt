@@ -1,26 +1,21 @@
-ghost use Rattle.std.specs.Prelude.{◌≡◌, List, [], ◌∷◌, ◌++◌, Ok, Err, None, OnOk, OnErr, IfOk, IfErr, IfSome, ◌⊎◌, true, false, position, if◌then◌else◌, ℕ, Some};
+ghost use Rattle.std.specs.Prelude.{◌≡◌, List, [], ◌∷◌, ◌++◌, Ok, Err, None, OnOk, OnErr, IfOk, IfErr, IfSome, ◌⊎◌, true, false, if◌then◌else◌};
 ghost use Rattle.channel_frames.specs.Frames.{frames, rest_of, is_broken};
 ghost use Rattle.channel_frames.specs.declared.fault.FrameFault.TheVariants as fault;
 ghost use Rattle.host_core.specs.LookUps.{unread_of};
-ghost use Rattle.host_core.specs.State.{same_worker};
+ghost use Rattle.host_notes.specs.Keys.{same_worker};
 ghost use Rattle.ms_base.specs.declared.keys.WorkerKey.{WorkerKey};
 
 use channel_frames::{FrameFault, FrameReader};
 use ms_base::{Bytes, NoMemory, WorkerKey};
 use std::alloc::Global;
+use std::collections::HashMap;
 
-/// The reader of one worker's channel.
-#[derive(Debug, Drop)]
-pub(crate) struct Reader {
-    pub(crate) worker: WorkerKey,
-    pub(crate) reader: FrameReader,
-}
-
-/// The readers of the channels on which bytes have come, in order.
+/// The readers of the channels on which bytes have come.
 #[derive(Debug, Drop)]
 pub(crate) struct Readers {
     alloc: Global,
-    items: Vec<Reader>,
+    /// By the slot and the generation of the worker.
+    items: HashMap<(u32, u32), FrameReader>,
 }
 
 impl Readers {
@@ -29,7 +24,7 @@ impl Readers {
     {
         Readers {
             alloc,
-            items: Vec::new(alloc),
+            items: HashMap::new(alloc),
         }
     }
 
@@ -38,12 +33,12 @@ impl Readers {
         ensures ok { OnOk result ((w : WorkerKey) → unread_of self.new w ≡ (if same_worker worker w then unread_of self.old w ++ bytes.now else unread_of self.old w)) }
         ensures err { OnErr result ((w : WorkerKey) → unread_of self.new w ≡ unread_of self.old w) }
     {
-        match self.place_of(worker) {
-            Some(place) => self.items[place].reader.feed(bytes),
+        match self.items.get_mut(&(worker.slot, worker.generation)) {
+            Some(reader) => reader.feed(bytes),
             None => {
                 let mut reader = FrameReader::new(self.alloc);
                 reader.feed(bytes)?;
-                self.items.push(Reader { worker, reader })?;
+                self.items.insert((worker.slot, worker.generation), reader)?;
                 Ok(())
             }
         }
@@ -57,8 +52,8 @@ impl Readers {
         ensures broken { IfErr result (λ wrong. (wrong ≡ fault.NoMemory) ⊎ (is_broken (unread_of self.old worker) ≡ true)) }
         ensures others { (w : WorkerKey) → same_worker worker w ≡ false → unread_of self.new w ≡ unread_of self.old w }
     {
-        match self.place_of(worker) {
-            Some(place) => self.items[place].reader.next_payload(),
+        match self.items.get_mut(&(worker.slot, worker.generation)) {
+            Some(reader) => reader.next_payload(),
             None => Ok(None),
         }
     }
@@ -67,16 +62,9 @@ impl Readers {
     pub(crate) fn breaks_with(&self, worker: WorkerKey, bytes: &[u8]) -> bool
         ensures { result ≡ is_broken (unread_of self.now worker ++ bytes.now) }
     {
-        match self.place_of(worker) {
-            Some(place) => self.items[place].reader.breaks_with(bytes),
+        match self.items.get(&(worker.slot, worker.generation)) {
+            Some(reader) => reader.breaks_with(bytes),
             None => FrameReader::new(self.alloc).breaks_with(bytes),
         }
-    }
-
-    // Where the reader of a worker stands.
-    fn place_of(&self, worker: WorkerKey) -> Option<usize>
-        ensures { result ≡ position (λ x. same_worker x.worker worker) self.now.items.items }
-    {
-        self.items.iter().position(|item| item.worker == worker)
     }
 }

@@ -1,6 +1,7 @@
-ghost use Rattle.std.specs.Prelude.{◌≡◌, ℕ, ◌+◌, ◌-◌, ◌^◌, ◌<◌, ◌&&◌, ◌==◌, List, Some, None, OnOk, option_copied, if◌then◌else◌};
-ghost use Rattle.host_core.specs.LookUps.{waiting_at, issued_by, made_by, one_if};
-ghost use Rattle.host_core.specs.State.{same_worker, has_name};
+ghost use Rattle.std.specs.Prelude.{◌≡◌, ℕ, ◌+◌, ◌-◌, ◌^◌, ◌<◌, ◌&&◌, ◌==◌, List, length, Some, None, OnOk, if◌then◌else◌};
+ghost use Rattle.host_core.specs.LookUps.{waiting_at, waiting_in, issued_by, made_by, one_if};
+ghost use Rattle.host_core.specs.State.{has_name};
+ghost use Rattle.host_notes.specs.Keys.{same_worker};
 ghost use Rattle.ms_base.specs.declared.keys.WorkerKey.{WorkerKey};
 
 mod names;
@@ -40,10 +41,9 @@ impl Model for Request {
 #[derive(Debug, Drop)]
 pub(crate) struct Requests {
     alloc: Global,
-    /// By the slot and the generation of the channel, and the id.
-    waiting: HashMap<(u32, u32, u32), Request>,
-    /// How many were issued, settled ones too, by the slot and the generation of the channel.
-    issued: HashMap<(u32, u32), u32>,
+    /// By the slot and the generation of the channel: a place for each request that was issued, in the order of their
+    /// ids, which are 1, 2, 3 and so on. It is empty once the request has its response.
+    channels: HashMap<(u32, u32), Vec<Option<Box<Request>>>>,
     /// The names that those without a response are to make.
     names: NamesBeingMade,
 }
@@ -56,20 +56,19 @@ impl Requests {
     {
         Requests {
             alloc,
-            waiting: HashMap::new(alloc),
-            issued: HashMap::new(alloc),
+            channels: HashMap::new(alloc),
             names: NamesBeingMade::new(alloc),
         }
     }
 
     /// How many requests were issued on a channel.
-    pub(crate) fn issued(&self, worker: WorkerKey) -> u32
+    pub(crate) fn issued(&self, worker: WorkerKey) -> usize
         ensures { result ≡ issued_by self.now worker }
     {
-        self.issued
-            .get(&(worker.slot, worker.generation))
-            .copied()
-            .unwrap_or(0)
+        match self.channels.get(&(worker.slot, worker.generation)) {
+            Some(places) => places.len(),
+            None => 0,
+        }
     }
 
     /// Whether a request without a response is to make an object of this name.
@@ -81,18 +80,23 @@ impl Requests {
 
     /// Adds the next request of its channel.
     pub(crate) fn issue(&mut self, request: Request) -> Result<(), NoMemory>
-        requires fits { issued_by self.old request.channel + 1 < 2 ^ 32 }
+        requires next { request.id ≡ issued_by self.old request.channel + 1 }
         requires names { (name : List ℕ) → made_by self.old name + 1 < 2 ^ 64 }
         ensures waiting { OnOk result ((w : WorkerKey) (id : ℕ) → waiting_at self.new w id ≡ (if same_worker request.channel w && request.id == id then Some request else waiting_at self.old w id)) }
         ensures issued { OnOk result ((w : WorkerKey) → issued_by self.new w ≡ (if same_worker request.channel w then issued_by self.old w + 1 else issued_by self.old w)) }
         ensures made { OnOk result ((name : List ℕ) → made_by self.new name ≡ made_by self.old name + one_if (has_name name request.makes)) }
     {
         let channel = (request.channel.slot, request.channel.generation);
-        let before = self.issued(request.channel);
-        self.issued.insert(channel, before + 1)?;
-        self.names.raise_made(self.alloc, &request.makes)?;
-        self.waiting
-            .insert((channel.0, channel.1, request.id), request)?;
+        self.names.raise(self.alloc, &request.makes)?;
+        let request = Box::new(self.alloc, request)?;
+        match self.channels.get_mut(&channel) {
+            Some(places) => places.push(Some(request))?,
+            None => {
+                let mut places = Vec::new(self.alloc);
+                places.push(Some(request))?;
+                self.channels.insert(channel, places)?;
+            }
+        }
         Ok(())
     }
 
@@ -103,8 +107,23 @@ impl Requests {
         ensures issued { (w : WorkerKey) → issued_by self.new w ≡ issued_by self.old w }
         ensures made { (name : List ℕ) → made_by self.new name ≡ made_by self.old name - one_if (Rattle.host_core.specs.LookUps.makes_named name result) }
     {
-        let request = self.waiting.remove(&(worker.slot, worker.generation, id))?;
-        self.names.lower_made(&request.makes);
+        let places = self.channels.get_mut(&(worker.slot, worker.generation))?;
+        let request = take_at(places, id)?;
+        self.names.lower(&request.makes);
         Some(request)
     }
+}
+
+// Takes out the request of an id, if it waits.
+fn take_at(places: &mut Vec<Option<Box<Request>>>, id: u32) -> Option<Request>
+    ensures found { result ≡ waiting_in places.old.items id }
+    ensures left { (i : ℕ) → waiting_in places.new.items i ≡ (if id == i then None else waiting_in places.old.items i) }
+    ensures same { length places.new.items ≡ length places.old.items }
+{
+    let place = (id as usize).checked_sub(1)?;
+    if place >= places.len() {
+        return None;
+    }
+    let request = places[place].take()?;
+    Some(Box::into_inner(request))
 }

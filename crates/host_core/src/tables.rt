@@ -4,18 +4,19 @@ ghost use Rattle.channel_msgs.specs.Read.{message_of};
 ghost use Rattle.channel_msgs.specs.View.{message_view, notice_view};
 ghost use Rattle.channel_msgs.specs.View as msgs;
 ghost use Rattle.host_core.specs.Answer.{max_slots};
-ghost use Rattle.host_core.specs.LookUps.{IsFresh, IsShort, issued_by, waiting_at};
+ghost use Rattle.host_core.specs.LookUps.{IsFresh, issued_by, waiting_at};
+ghost use Rattle.host_notes.specs.Sent.{IsShort};
 ghost use Rattle.host_core.specs.State.{start, up_slot, numbered, as_serial};
 ghost use Rattle.host_core.specs.Step.{answered, called, heard, noted, noticed, object_added, ran, replied, request_issued, says_running, serials_drawn, settled_by, started, step, worker_wanted, Says};
 ghost use Rattle.host_core.specs.Tables.{answer_view, known_of, IsDue, IsFree, IsKept, Goes, Moves, HasNames, HasRoom, HasSerial, ShowsTheSame};
 
 use crate::answer::Answer as CallAnswer;
 use crate::calls::Calls;
-use crate::notes::Notes;
 use crate::objects::{Object, Objects};
 use crate::requests::{Request, Requests};
 use crate::slots::{Phase, Slot, Slots};
 use channel_msgs::{Answer, Message, MessageFault, Notice, Reply, read_message};
+use host_notes::Notes;
 use ms_base::{Bytes, CallKey, Kind, Name, NoMemory, Op, Outcome, Serial, WorkerKey};
 use std::alloc::Global;
 use transcript::Note;
@@ -135,7 +136,6 @@ impl Tables {
     // A request goes to a worker, as the next of its channel.
     fn issue(&mut self, request: Request, payload: Bytes) -> Result<(), NoMemory>
         requires id { request.id ≡ issued_by self.old.requests request.channel + 1 }
-        requires fits { request.id < 2 ^ 32 }
         requires short { length payload ≤ max_payload }
         requires names { HasNames self.old }
         ensures ok { OnOk result (waiting_at self.old.requests request.channel request.id ≡ None → Moves (request_issued request payload) self.old self.new) }

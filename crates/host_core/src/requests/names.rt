@@ -1,4 +1,4 @@
-ghost use Rattle.std.specs.Prelude.{◌≡◌, ℕ, ◌+◌, ◌-◌, ◌^◌, ◌<◌, List, OnOk, bytes_eq};
+ghost use Rattle.std.specs.Prelude.{◌≡◌, ℕ, ◌+◌, ◌-◌, ◌^◌, ◌<◌, List, OnOk};
 ghost use Rattle.host_core.specs.LookUps.{count_of, one_if};
 ghost use Rattle.host_core.specs.State.{has_name};
 
@@ -30,11 +30,15 @@ impl NamesBeingMade {
         self.counts.get(name).copied().unwrap_or(0)
     }
 
-    // Counts one more of this name.
-    fn raise(&mut self, alloc: Global, name: &[u8]) -> Result<(), NoMemory>
-        requires { count_of self.old name.now + 1 < 2 ^ 64 }
-        ensures { OnOk result ((other : List ℕ) → count_of self.new other ≡ count_of self.old other + one_if (bytes_eq name.now other)) }
+    /// Counts one more of the name of the object that a request is to make, if it is to make one.
+    pub(crate) fn raise(&mut self, alloc: Global, made: &Option<Object>) -> Result<(), NoMemory>
+        requires { (name : List ℕ) → count_of self.old name + 1 < 2 ^ 64 }
+        ensures { OnOk result ((name : List ℕ) → count_of self.new name ≡ count_of self.old name + one_if (has_name name made.now)) }
     {
+        let Some(object) = made else {
+            return Ok(());
+        };
+        let name = object.name.as_slice();
         match self.counts.get_mut(name) {
             Some(count) => *count += 1,
             None => {
@@ -44,36 +48,18 @@ impl NamesBeingMade {
         Ok(())
     }
 
-    // Counts one less of this name, if there is one.
-    fn lower(&mut self, name: &[u8])
-        ensures { (other : List ℕ) → count_of self.new other ≡ count_of self.old other - one_if (bytes_eq name.now other) }
-    {
-        if let Some(count) = self.counts.get_mut(name) {
-            *count = count.saturating_sub(1);
-        }
-    }
-
-    /// Counts one more of the name of the object that a request is to make, if it is to make one.
-    pub(crate) fn raise_made(
-        &mut self,
-        alloc: Global,
-        made: &Option<Object>,
-    ) -> Result<(), NoMemory>
-        requires { (name : List ℕ) → count_of self.old name + 1 < 2 ^ 64 }
-        ensures { OnOk result ((name : List ℕ) → count_of self.new name ≡ count_of self.old name + one_if (has_name name made.now)) }
-    {
-        match made {
-            Some(object) => self.raise(alloc, object.name.as_slice()),
-            None => Ok(()),
-        }
-    }
-
     /// Counts one less of the name of the object that a request was to make, if it was to make one.
-    pub(crate) fn lower_made(&mut self, made: &Option<Object>)
+    pub(crate) fn lower(&mut self, made: &Option<Object>)
         ensures { (name : List ℕ) → count_of self.new name ≡ count_of self.old name - one_if (has_name name made.now) }
     {
-        if let Some(object) = made {
-            self.lower(object.name.as_slice());
+        let Some(object) = made else {
+            return;
+        };
+        let name = object.name.as_slice();
+        if self.count(name) <= 1 {
+            self.counts.remove(name);
+        } else if let Some(count) = self.counts.get_mut(name) {
+            *count -= 1;
         }
     }
 }

@@ -1,10 +1,10 @@
-use Rattle.std.proofs.Common.{◌≡◌, ◌⊎◌, true, false, sym, ap, ◌∙◌, inl, inr, subst}
+use Rattle.std.proofs.Common.{◌≡◌, sym, ap, ◌∙◌, inl, inr, subst}
 use Rattle.std.proofs.lemmas.Result.{on_ok_weaker}
 use Rattle.ms_base.specs.declared.keys.Serial.{Serial}
 use Rattle.transcript.specs.declared.note.Note.TheVariants as note
 use Rattle.channel_msgs.specs.View.{notice_view}
 use Rattle.host_core.specs.State.{Slot, is_running}
-use Rattle.host_core.specs.Step.{noted, noticed, says_running}
+use Rattle.host_core.specs.Step.{noted, noticed}
 use Rattle.host_core.specs.Tables.{Moves}
 use Rattle.host_core.specs.declared.tables.Tables.{Tables}
 use Rattle.host_core.proofs.HeardLemmas.{at-up, stray-moves, runs-moves}

@@ -1,0 +1,4 @@
+pub mod Indexes
+pub mod Keys
+pub mod Sent
+pub mod Verdicts
