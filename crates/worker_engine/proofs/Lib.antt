@@ -1,0 +1,17 @@
+pub mod ByIdLemmas
+pub mod Changes
+pub mod Emitted
+pub mod EngineLemmas
+pub mod Lends
+pub mod LookUps
+pub mod Made
+pub mod Output
+pub mod PacketChanges
+pub mod ReadParts
+pub mod ReplyLemmas
+pub mod RouterLemmas
+pub mod Sends
+pub mod Sound
+pub mod Stretches
+pub mod TableLemmas
+pub mod Writes
