@@ -11,6 +11,7 @@ mod output;
 use crate::input::Input;
 use crate::output::Output;
 use ms_base::Text;
+use ms_devices::{MemInbox, MemOutbox};
 use run_top::{Status, media_top};
 use std::alloc::{AllocError, Global};
 use std::env::Args;
@@ -27,7 +28,22 @@ fn main(rt: HostRuntime) -> ExitCode {
     };
     let mut source = Input::new(rt.stdin());
     let mut sink = Output::new(rt.stdout());
-    exit_code(media_top(rt.alloc(), words.as_slice(), &mut source, &mut sink))
+    // In memory, with nothing in them: there are no real ones yet.
+    let alloc = rt.alloc();
+    let Ok(mut inbox) = MemInbox::new(alloc, Vec::new(alloc), Vec::new(alloc)) else {
+        return exit_code(Status::OUT_OF_MEMORY);
+    };
+    let Ok(mut outbox) = MemOutbox::new(alloc, Vec::new(alloc), Vec::new(alloc)) else {
+        return exit_code(Status::OUT_OF_MEMORY);
+    };
+    exit_code(media_top(
+        alloc,
+        words.as_slice(),
+        &mut source,
+        &mut sink,
+        &mut inbox,
+        &mut outbox,
+    ))
 }
 
 // The exit code of a status.

@@ -4,7 +4,7 @@ use crate::input::Input;
 use crate::output::Output;
 use journal_text::entry_size;
 use ms_base::{Bytes, Entry, Text, WorkerKey};
-use ms_devices::{Failed, MemSink, MemSource, Sink, Source};
+use ms_devices::{Failed, MemInbox, MemOutbox, MemSink, MemSource, Sink, Source};
 use run_top::{Status, media_top};
 use std::io;
 use std::io::{ErrorKind, Read, Write};
@@ -148,7 +148,16 @@ fn notes_what_is_unexpected_and_waits_for_a_payload_at_the_limit(
     words.push(Text::from_str(alloc, "replay")?)?;
     let mut source = MemSource::new(alloc, RUNNING, Vec::new(alloc))?;
     let mut sink = MemSink::new(alloc, Vec::new(alloc))?;
-    let status = media_top(alloc, words.as_slice(), &mut source, &mut sink);
+    let mut inbox = MemInbox::new(alloc, Vec::new(alloc), Vec::new(alloc))?;
+    let mut outbox = MemOutbox::new(alloc, Vec::new(alloc), Vec::new(alloc))?;
+    let status = media_top(
+        alloc,
+        words.as_slice(),
+        &mut source,
+        &mut sink,
+        &mut inbox,
+        &mut outbox,
+    );
     assert_eq!(rt; status, Status::DONE);
     assert_eq!(rt; sink.told().unwrap_or(b"no more told"), RUNNING_LINES);
     Ok(())

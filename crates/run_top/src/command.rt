@@ -8,6 +8,8 @@ use ms_base::Text;
 pub enum Command {
     /// Replays the journal that the source holds.
     Replay,
+    /// Serves as a worker.
+    Worker,
 }
 
 /// The command that the words behind the program's own name are, if they are one.
@@ -16,6 +18,7 @@ pub fn command_of(words: &[Text]) -> Option<Command>
 {
     match words {
         [word] if word.as_str() == "replay" => Some(Command::Replay),
+        [word] if word.as_str() == "worker" => Some(Command::Worker),
         _ => None,
     }
 }

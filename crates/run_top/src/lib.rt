@@ -1,17 +1,23 @@
-//! The top of the media server: each command as a call over a source and a sink.
+//! The top of the media server: each command as a call over the objects of the outside that it uses.
 #![tactic(auto)]
 
 mod apply;
 mod command;
+mod fault;
 mod read;
 mod replay;
+mod say;
+mod serve;
+mod server;
 mod status;
 mod top;
+mod worker;
 
 pub use command::{Command, command_of};
 pub use replay::replay_top;
 pub use status::Status;
 pub use top::media_top;
+pub use worker::worker_top;
 
 #[cfg(test)]
 mod tests;

@@ -42,8 +42,8 @@ pub(crate) fn read_text<S: Source>(alloc: Global, source: &mut S) -> Result<Byte
     Ok(text)
 }
 
-// So many zero bytes.
-fn zeroes(alloc: Global, count: usize) -> Result<Vec<u8>, ReadFault>
+/// So many zero bytes.
+pub(crate) fn zeroes(alloc: Global, count: usize) -> Result<Vec<u8>, ReadFault>
     ensures count { IfOk result (λ place. length place.items ≡ count) }
     ensures only { IfErr result (λ fault. fault ≡ ReadFault.NoMemory) }
 {
