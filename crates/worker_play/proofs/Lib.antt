@@ -1,0 +1,4 @@
+pub mod EventLemmas
+pub mod LineLemmas
+pub mod NumberLemmas
+pub mod TextLemmas
