@@ -116,11 +116,18 @@ impl Codec {
         is_same_name(self.name.as_str(), "rtx")
     }
 
+    /// The value of its first parameter of a name.
+    pub fn parameter(&self, name: &str) -> Option<&Scalar>
+        ensures { option_copied result ≡ parameter_named name.now self.now.parameters }
+    {
+        parameter_named(self.parameters.as_slice(), name)
+    }
+
     /// The payload type that it is associated with: its first parameter `apt`, if that is a number from
     /// 0 to 127 (RFC 4588, section 8.1).
     pub fn apt(&self) -> Option<u8>
         ensures { result ≡ apt_of self.now }
     {
-        parameter_named(self.parameters.as_slice(), "apt")?.as_payload_type()
+        self.parameter("apt")?.as_payload_type()
     }
 }

@@ -26,7 +26,7 @@ pub use mapping::Mapping;
 pub use names::is_same_name;
 pub use params::{Caps, Params};
 pub use read::{read_caps, read_encodings, read_mapping, read_params};
-pub use table::table_exts;
+pub use table::{all_exts, table_exts};
 pub use write::{write_caps, write_params};
 
 #[cfg(test)]

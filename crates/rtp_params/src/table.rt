@@ -1,5 +1,5 @@
 ghost use Rattle.std.specs.Prelude.{◌≡◌, IfOk, filter, map};
-ghost use Rattle.rtp_params.specs.Table.{ext_of_row, is_for, is_sent_for, sent_exts};
+ghost use Rattle.rtp_params.specs.Table.{ext_of_row, ext_table, is_for, is_sent_for, sent_exts};
 
 use crate::ext::Ext;
 use ms_base::{Media, NoMemory, Text};
@@ -121,6 +121,17 @@ fn sent_exts(alloc: Global, rows: &[Row], media: Media) -> Result<Vec<Ext>, NoMe
     Ok(exts)
 }
 
+// The extensions of these rows.
+fn exts_of(alloc: Global, rows: &[Row]) -> Result<Vec<Ext>, NoMemory>
+    ensures { IfOk result (λ exts. exts.items ≡ map ext_of_row rows.now) }
+{
+    let mut exts = Vec::with_capacity(alloc, rows.len())?;
+    for row in rows {
+        exts.push(row.ext(alloc)?)?;
+    }
+    Ok(exts)
+}
+
 /// The supported header extensions that are sent for this media, in the order of their table, which is that
 /// of their ids.
 #[tactic(auto, unfolding(crate::specs::Table::ext_table))]
@@ -128,4 +139,12 @@ pub fn table_exts(alloc: Global, media: Media) -> Result<Vec<Ext>, NoMemory>
     ensures { IfOk result (λ exts. exts.items ≡ sent_exts media) }
 {
     sent_exts(alloc, &TABLE, media)
+}
+
+/// All supported header extensions, in the order of their table.
+#[tactic(auto, unfolding(crate::specs::Table::ext_table))]
+pub fn all_exts(alloc: Global) -> Result<Vec<Ext>, NoMemory>
+    ensures { IfOk result (λ exts. exts.items ≡ ext_table) }
+{
+    exts_of(alloc, &TABLE)
 }

@@ -1,6 +1,6 @@
 use crate::{
-    Caps, Codec, Encoding, Mapping, ParamFault, Params, is_same_name, read_caps, read_encodings,
-    read_mapping, read_params, table_exts, write_caps, write_params,
+    Caps, Codec, Encoding, Mapping, ParamFault, Params, all_exts, is_same_name, read_caps,
+    read_encodings, read_mapping, read_params, table_exts, write_caps, write_params,
 };
 use ms_base::Media;
 use serde_json::Value;
@@ -283,6 +283,17 @@ fn sent_ids(alloc: Global, media: Media) -> Result<Vec<u8>, Fail> {
         ids.push(ext.id)?;
     }
     Ok(ids)
+}
+
+#[test]
+fn the_table_has_each_extension(rt: HostRuntime) -> Result<(), Fail> {
+    let exts = all_exts(rt.alloc())?;
+    let mut ids = Vec::new(rt.alloc());
+    for ext in exts.iter() {
+        ids.push(ext.id)?;
+    }
+    assert_eq!(rt; ids.as_slice(), [1, 2, 3, 4, 5, 7, 10, 11, 12].as_slice());
+    Ok(())
 }
 
 #[test]
