@@ -66,6 +66,12 @@ pub body_fits : (f : Fields) (header body old m1 m2 : List ℕ) (a1 a2 : ℕ) �
 body_fits f header body old m1 m2 a1 a2 h b room v short =
     omega (arith, ap length h, ap length b, packet_len f, room, v.end_is, short)
 
+-- what is written ends no later than the packet did
+pub packet_no_longer : (f : Fields) (header body old m1 m2 new : List ℕ) (a1 a2 end : ℕ) → header ≡ fixed_header f ++ csrc_list f.csrcs → body ≡ f.payload ++ padding_bytes f.padding
+    → Wrote header old m1 0 a1 → a2 ≤ a1 + length (header_extension f.extension) → Wrote body m2 new a2 end → end ≤ length (packet_of f)
+packet_no_longer f header body old m1 m2 new a1 a2 end h b v short w =
+    omega (arith, ap length h, ap length b, packet_len f, v.end_is, short, w.end_is)
+
 pub packet_written : (ids : ℕ → Option ℕ) (f : Fields) (header body old m1 m2 new : List ℕ) (a1 a2 end : ℕ)
     → header ≡ fixed_header f ++ csrc_list f.csrcs → body ≡ f.payload ++ padding_bytes f.padding → length (packet_of f) ≤ length old
     → Wrote header old m1 0 a1 → Wrote (header_extension (extension_with ids f.extension)) m1 m2 a1 a2 → a2 ≤ a1 + length (header_extension f.extension) → Wrote body m2 new a2 end

@@ -1,3 +1,4 @@
+pub mod Activity
 pub mod Elements
 pub mod Reading
 pub mod Viewing

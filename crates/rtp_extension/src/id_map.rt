@@ -43,6 +43,14 @@ impl IdMap {
         self.ids[usize::from(id)] = Some(new);
     }
 
+    /// Takes the new id of one away, if one was set.
+    pub fn clear(&mut self, id: u8)
+        ensures cleared { new_id self.new id ≡ None }
+        ensures others { (other : ℕ) → other ≢ id → new_id self.new other ≡ new_id self.old other }
+    {
+        self.ids[usize::from(id)] = None;
+    }
+
     /// The new id of one: `None` exactly where none was set.
     pub fn get(&self, id: u8) -> Option<u8>
         ensures found { result ≡ new_id self.now id }

@@ -5,6 +5,7 @@
 mod extension;
 mod form;
 mod id_map;
+mod id_set;
 mod laws;
 mod mapped;
 mod reading;
@@ -13,12 +14,13 @@ mod writing;
 
 pub use extension::elements;
 pub use id_map::IdMap;
+pub use id_set::IdSet;
 pub use laws::{
     reading_is_the_grammar, rewritten_elements, rewritten_is_a_packet, rewritten_is_no_longer,
 };
 pub use mapped::{Flags, Mapped};
 pub use reading::Elements;
-pub use rewrite::rewrite_ids;
+pub use rewrite::{rewrite_ids, rewrite_view};
 
 #[cfg(test)]
 mod tests;

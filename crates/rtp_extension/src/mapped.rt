@@ -1,5 +1,7 @@
 //! What is known of a packet and of who gets it.
 
+ghost use Rattle.std.specs.Prelude.{◌≡◌};
+
 /// What a Producer says of one of its packets.
 #[derive(Clone, Copy, Debug, PartialEq, Eq)]
 pub struct Mapped {
@@ -23,4 +25,15 @@ pub struct Flags {
     pub paused: bool,
     /// The Consumer's Producer is paused.
     pub producer_paused: bool,
+}
+
+impl Flags {
+    ghost use Rattle.rtp_extension.specs.Activity.{is_active};
+
+    /// Whether the Consumer is active.
+    pub fn is_active(self) -> bool
+        ensures { result ≡ is_active self }
+    {
+        self.connected && !self.paused && !self.producer_paused
+    }
 }

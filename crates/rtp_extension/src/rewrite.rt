@@ -1,15 +1,16 @@
 //! Writing a packet with other element ids.
 
-ghost use Rattle.std.specs.Prelude.{◌≡◌, ◌≤◌, length, take, drop};
-ghost use Rattle.rtp_packet.specs.Packet.{Fields, IsPacket};
+ghost use Rattle.std.specs.Prelude.{◌≡◌, ◌≤◌, ◌++◌, length, take, drop};
+ghost use Rattle.rtp_packet.specs.Packet.{Fields, Fits, IsPacket, packet_of};
 ghost use Rattle.rtp_packet.specs.Fault.{Parses};
 ghost use Rattle.rtp_extension.specs.Reading.{elements_of};
-ghost use Rattle.rtp_extension.specs.Ids.{new_id};
+ghost use Rattle.rtp_extension.specs.Ids.{new_id, kept_id};
 ghost use Rattle.rtp_extension.specs.Rewriting.{with_ids, kept_of};
 
 use crate::id_map::IdMap;
+use crate::id_set::IdSet;
 use crate::writing::put_packet;
-use rtp_packet::{Packet, grammar};
+use rtp_packet::{Packet, View, grammar};
 
 /// Writes the packet into the front of `into` with new ids for the elements of its header extension, and
 /// gives the number of bytes that it wrote. An element without a new id isn't kept, nor is one whose new id
@@ -33,7 +34,19 @@ pub fn rewrite_ids(map: &IdMap, packet: &[u8], into: &mut [u8]) -> usize
     grammar();
     map.are_ids();
     match Packet::parse(packet) {
-        Ok(view) => put_packet(map, &view, into),
+        Ok(view) => put_packet(map, &IdSet::all(), &view, into),
         Err(_) => unreachable!(),
     }
+}
+
+/// Writes a packet that was read into the front of `into`, as [`rewrite_ids`] does, and keeps of the new ids
+/// only those that the set has. The packet isn't read again.
+pub fn rewrite_view(map: &IdMap, only: &IdSet, view: &View<'_>, into: &mut [u8]) -> usize
+    requires fits { Fits view.now }
+    requires room { length (packet_of view.now) ≤ length into.old }
+    ensures bytes { into.new ≡ packet_of (with_ids (kept_id map.now only.now) view.now) ++ drop result into.old }
+    ensures len { result ≡ length (packet_of (with_ids (kept_id map.now only.now) view.now)) }
+    ensures no_longer { result ≤ length (packet_of view.now) }
+{
+    put_packet(map, only, view, into)
 }

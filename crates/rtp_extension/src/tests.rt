@@ -189,3 +189,48 @@ fn a_packet_without_elements(rt: HostRuntime) -> Result<(), Fail> {
     }
     Ok(())
 }
+
+/// The same with the new ids of this set alone.
+fn rewrite_in(only: &IdSet, packet: &[u8], into: &mut [u8]) -> Option<usize> {
+    if into.len() < packet.len() {
+        return None;
+    }
+    match Packet::parse(packet) {
+        Ok(view) => Some(rewrite_view(&ids(), only, &view, into)),
+        Err(_) => None,
+    }
+}
+
+/// The ids 1 and 3 become 15 and 10 by `ids`, of which the set has the second.
+#[test]
+fn elements_of_a_set_are_kept(rt: HostRuntime) -> Result<(), Fail> {
+    let extension = [
+        0x10, 0x00, 0, 3, 1, 1, 0xA1, 0, 3, 2, 0xB1, 0xB2, 0, 0, 0, 0,
+    ];
+    let packet = packet_with(rt.alloc(), &extension)?;
+    let mut only = IdSet::new();
+    only.add(10);
+    only.add(200);
+    assert_eq!(rt;
+        (only.has(10), only.has(15), only.has(200)),
+        (true, false, true)
+    );
+    let mut into = BUFFER;
+    assert_eq!(rt; rewrite_in(&only, packet.as_slice(), &mut into), Some(21));
+    assert_eq!(rt;
+        &into[12..20],
+        [0x10, 0x00, 0, 1, 10, 2, 0xB1, 0xB2].as_slice()
+    );
+    Ok(())
+}
+
+#[test]
+fn an_id_is_taken_away(rt: HostRuntime) {
+    let mut map = ids();
+    map.clear(3);
+    map.clear(7);
+    assert_eq!(rt;
+        (map.get(3), map.get(1), map.get(7)),
+        (None, Some(15), None)
+    );
+}

@@ -6,12 +6,13 @@ ghost use Rattle.byteorder.specs.Endian.{big_bytes};
 ghost use Rattle.rtp_packet.specs.Packet.{Fields, Fits, packet_of, header_extension, IsExtension};
 ghost use Rattle.rtp_extension.specs.Elements.{IsElement, spelled, spelling};
 ghost use Rattle.rtp_extension.specs.Reading.{elements_in};
-ghost use Rattle.rtp_extension.specs.Ids.{new_id};
+ghost use Rattle.rtp_extension.specs.Ids.{kept_id};
 ghost use Rattle.rtp_extension.specs.Rewriting.{usable, kept, missing, in_words, extension_with, with_ids};
 ghost use Rattle.rtp_extension.specs.Viewing.{Wrote};
 
 use crate::form::{Form, LAST_ONE_BYTE_ID};
 use crate::id_map::IdMap;
+use crate::id_set::IdSet;
 use crate::reading::Elements;
 use rtp_packet::View;
 
@@ -20,21 +21,22 @@ const HEAD_LEN: usize = 4;
 
 const ZEROS: [u8; 3] = [0; 3];
 
-/// Writes a packet that was read, with the elements of its extension that have new ids.
-pub(crate) fn put_packet(map: &IdMap, view: &View<'_>, into: &mut [u8]) -> usize
+/// Writes a packet that was read, with the elements of its extension whose new ids the set has.
+pub(crate) fn put_packet(map: &IdMap, only: &IdSet, view: &View<'_>, into: &mut [u8]) -> usize
     requires fits { Fits view.now }
     requires room { length (packet_of view.now) ≤ length into.old }
-    ensures { Wrote (packet_of (with_ids (new_id map.now) view.now)) into.old into.new 0 result }
+    ensures written { Wrote (packet_of (with_ids (kept_id map.now only.now) view.now)) into.old into.new 0 result }
+    ensures no_longer { result ≤ length (packet_of view.now) }
 {
     let at = put(view.header(), into, 0);
-    let at = put_extension(map, view, into, at);
+    let at = put_extension(map, only, view, into, at);
     put(view.body(), into, at)
 }
 
-fn put_extension(map: &IdMap, view: &View<'_>, into: &mut [u8], at: usize) -> usize
+fn put_extension(map: &IdMap, only: &IdSet, view: &View<'_>, into: &mut [u8], at: usize) -> usize
     requires whole { IfSome view.now.extension (λ e. IsExtension e.0 e.1) }
     requires room { at + length (header_extension view.now.extension) ≤ length into.old }
-    ensures written { Wrote (header_extension (extension_with (new_id map.now) view.now.extension)) into.old into.new at result }
+    ensures written { Wrote (header_extension (extension_with (kept_id map.now only.now) view.now.extension)) into.old into.new at result }
     ensures no_longer { result ≤ at + length (header_extension view.now.extension) }
 {
     let Some((profile, words)) = view.extension() else {
@@ -43,7 +45,7 @@ fn put_extension(map: &IdMap, view: &View<'_>, into: &mut [u8], at: usize) -> us
     let Some(form) = Form::of(profile) else {
         return put(view.extension_bytes(), into, at);
     };
-    let end = put_words(map, form, words, into, at + HEAD_LEN);
+    let end = put_words(map, only, form, words, into, at + HEAD_LEN);
     let count = (end - at - HEAD_LEN) / 4;
     put_head(profile, count as u16, into, at);
     end
@@ -58,14 +60,21 @@ fn put_head(profile: u16, count: u16, into: &mut [u8], at: usize) -> usize
     put(&count.to_be_bytes(), into, at)
 }
 
-// Writes the words of an extension whose elements have new ids.
-fn put_words(map: &IdMap, form: Form, words: &[u8], into: &mut [u8], at: usize) -> usize
+// Writes the words of an extension whose elements have new ids that the set has.
+fn put_words(
+    map: &IdMap,
+    only: &IdSet,
+    form: Form,
+    words: &[u8],
+    into: &mut [u8],
+    at: usize,
+) -> usize
     requires whole { length words.now % 4 ≡ 0 }
     requires room { at + length words.now ≤ length into.old }
-    ensures written { Wrote (in_words (spelling form (kept (new_id map.now) form (elements_in form words.now)))) into.old into.new at result }
+    ensures written { Wrote (in_words (spelling form (kept (kept_id map.now only.now) form (elements_in form words.now)))) into.old into.new at result }
     ensures no_longer { result ≤ at + length words.now }
 {
-    let end = put_kept(map, form, words, into, at);
+    let end = put_kept(map, only, form, words, into, at);
     put(&ZEROS[..missing_bytes(end - at)], into, end)
 }
 
@@ -77,26 +86,36 @@ fn missing_bytes(len: usize) -> usize
     (4 - len % 4) % 4
 }
 
-// Writes those of the elements that have a new id which their form can spell.
-fn put_kept(map: &IdMap, form: Form, words: &[u8], into: &mut [u8], at: usize) -> usize
+// Writes those of the elements that have a new id which the set has and their form can spell.
+fn put_kept(
+    map: &IdMap,
+    only: &IdSet,
+    form: Form,
+    words: &[u8],
+    into: &mut [u8],
+    at: usize,
+) -> usize
     requires room { at + length words.now ≤ length into.old }
-    ensures { Wrote (spelling form (kept (new_id map.now) form (elements_in form words.now))) into.old into.new at result }
+    ensures { Wrote (spelling form (kept (kept_id map.now only.now) form (elements_in form words.now))) into.old into.new at result }
 {
     let mut end = at;
     for (id, data) in Elements::of(form, words) {
-        if let Some(new) = usable_id(map, form, id) {
+        if let Some(new) = usable_id(map, only, form, id) {
             end = put_element(form, new, data, into, end);
         }
     }
     end
 }
 
-// The new id of an element, if it has one that the form can spell.
-fn usable_id(map: &IdMap, form: Form, id: u8) -> Option<u8>
-    ensures found { result ≡ option_and_then (usable form) (new_id map.now id) }
+// The new id of an element, if it has one that the set has and the form can spell.
+fn usable_id(map: &IdMap, only: &IdSet, form: Form, id: u8) -> Option<u8>
+    ensures found { result ≡ option_and_then (usable form) (kept_id map.now only.now id) }
     ensures least { IfSome result (λ new. 1 ≤ new) }
 {
     let new = map.get(id)?;
+    if !only.has(new) {
+        return None;
+    }
     match form {
         Form::OneByte if new > LAST_ONE_BYTE_ID => None,
         _ => Some(new),

@@ -1,4 +1,4 @@
-use Rattle.rtp_extension.specs.Ids.{new_id}
+use Rattle.rtp_extension.specs.Ids.{kept_id}
 use Rattle.rtp_extension.proofs.Writes.{Puts}
 use Rattle.rtp_extension.proofs.writing.put_kept.Given as goal
 
@@ -6,4 +6,4 @@ abbrev pub invariant-loop-id : goal.invariant-loop-id
 invariant-loop-id l =
     (goal.iterator-loop-id).can_next l.id-iterator
     × (goal.iterator-loop-id).is_finite l.id-iterator
-    × Puts (new_id l.map) l.form l.words l.initial.into l.into l.id-iterator l.at l.end
+    × Puts (kept_id l.map l.only) l.form l.words l.initial.into l.into l.id-iterator l.at l.end
