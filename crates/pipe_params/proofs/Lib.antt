@@ -1,0 +1,3 @@
+pub mod PipeLaws
+pub mod PipeLemmas
+pub mod PipeReads
