@@ -1,0 +1,10 @@
+pub mod NumeralLemmas
+pub mod RouterLemmas
+pub mod MappingLemmas
+pub mod ConsumerLemmas
+pub mod ConsumerLaws
+pub mod OfferLemmas
+pub mod ReadableLemmas
+pub mod OfferReads
+pub mod RouterReads
+pub mod MappingReads

@@ -1,0 +1,14 @@
+pub mod Rules
+pub mod Matching
+pub mod Numerals
+pub mod Supported
+pub mod RouterCaps
+pub mod ProducerMapping
+pub mod Laws
+pub mod MatchingRows
+pub mod RouterRows
+pub mod MappingRows
+pub mod Consumable
+pub mod ConsumerParams
+pub mod ConsumerLaws
+pub mod ConsumerRows
