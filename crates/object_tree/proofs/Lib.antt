@@ -1,0 +1,11 @@
+pub mod AmongLemmas
+pub mod ChainLemmas
+pub mod ChangeLemmas
+pub mod CloseLemmas
+pub mod EndLemmas
+pub mod EntryLemmas
+pub mod FallLemmas
+pub mod IndexLemmas
+pub mod NameLemmas
+pub mod ReachLemmas
+pub mod TableLemmas

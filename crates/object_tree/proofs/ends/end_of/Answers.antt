@@ -1,0 +1,8 @@
+use Rattle.std.proofs.Common.{ℕ, leb, rules}
+use Rattle.std.proofs.lemmas.List.Sorted.{IsPartitionPoint-from_clause, IsPartitionedBy-leb}
+use Rattle.object_tree.proofs.ends.end_of.Goals as goal
+
+pub returns-clause-point : goal.returns-clause-point
+returns-clause-point c =
+    IsPartitionPoint-from_clause (λ (p : ℕ × ℕ). leb p.0 c.args.at) _ _ c.partition_point.ensures.partitioned
+    (IsPartitionedBy-leb (λ (p : ℕ × ℕ). p.0) _ c.args.at c.requires) (λ a r q k. search rules)
