@@ -1,0 +1,5 @@
+mod Emitted
+mod PassLemmas
+mod Spans
+mod TableLemmas
+mod Writes

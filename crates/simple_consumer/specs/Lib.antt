@@ -1,0 +1,7 @@
+pub mod Calls
+pub mod Emits
+pub mod Laws
+pub mod Lower
+pub mod Rows
+pub mod Sending
+pub mod Tables
