@@ -1,0 +1,4 @@
+mod Founds
+mod Mapped
+mod Ordered
+mod Sents

@@ -1,0 +1,5 @@
+pub mod Emits
+pub mod Laws
+pub mod Lower
+pub mod Rows
+pub mod Streams
