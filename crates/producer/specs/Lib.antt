@@ -1,0 +1,5 @@
+pub mod Ids
+pub mod Received
+pub mod Rows
+pub mod Stream
+pub mod Tables
