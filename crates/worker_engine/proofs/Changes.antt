@@ -1,18 +1,16 @@
 -- What an event does to a Consumer and its Producer.
-use Rattle.std.proofs.Common.{◌≡◌, ℕ, List, [], ◌∷◌, ◌++◌, Bool, true, false, cond, ◌&&◌, map, Option, Some, None, option_map, option_and_then, refl, sym, ap, subst, ◌∙◌}
+use Rattle.std.proofs.Common.{◌≡◌, List, [], ◌∷◌, ◌++◌, Bool, true, false, cond, map, Option, Some, None, option_map, option_and_then, refl, sym, ap, subst, ◌∙◌}
 use Rattle.std.specs.Prelude.{⊤}
 use Rattle.std.specs.List.{find}
 use Rattle.std.specs.Option.{option_or}
 use Rattle.std.proofs.lemmas.List.Folds.{find-append}
 use Rattle.ms_base.specs.declared.id.Id.{Id}
 use Rattle.seq_manager.specs.Numbering.{unnumbered}
-use Rattle.worker_engine.specs.declared.producer.Taken.{Taken}
 use Rattle.worker_engine.specs.Objects.{Consumer, Producer, Router, Worker, same_id, producer_of, consumer_of, router_of}
 use Rattle.worker_engine.specs.Packets.{is_active}
-use Rattle.worker_engine.specs.Requests.{change_router, change_producer, with_transport, with_producer, with_consumer}
-use Rattle.worker_engine.specs.Run.{numbered_for, with_numbered}
+use Rattle.worker_engine.specs.Requests.{change_router, change_producer, with_producer, with_consumer}
 use Rattle.worker_engine.specs.Emits.{ConsumerKey, consumer_at}
-use Rattle.worker_engine.proofs.LookUps.{same-at, find-map, found-passes, and-then-same, and-then-map, and-then-both}
+use Rattle.worker_engine.proofs.LookUps.{find-map, and-then-both}
 
 -- ---- a Consumer in a Producer, in a Router, in a list of Routers
 

@@ -1,9 +1,7 @@
 -- What a Consumer emits, against the state that the worker keeps.
-use Rattle.std.proofs.Common.{◌≡◌, ℕ, ◌+◌, ◌<◌, ◌≤◌, ◌%◌, ◌^◌, ◌==◌, List, [], ◌∷◌, ◌++◌, Bool, true, false, cond, ◌&&◌, not, map, length, drop, Option, Some, None, option_map, option_and_then, refl, sym, ap, subst, ◌∙◌, append_assoc, arith, get_or-drop}
+use Rattle.std.proofs.Common.{◌≡◌, ℕ, ◌+◌, ◌<◌, ◌==◌, List, [], ◌∷◌, ◌++◌, Bool, true, false, cond, ◌&&◌, not, length, drop, Option, Some, None, option_map, option_and_then, refl, sym, ap, subst, ◌∙◌, append_assoc, arith, get_or-drop}
 use Rattle.std.specs.Prelude.{⊤, is_some, nat_le}
-use Rattle.std.specs.List.{find, filter_map, cons_option, AllByRecursion}
-use Rattle.byteorder.specs.Endian.{big_bytes, big_number}
-use Rattle.channel_msgs.specs.Packet.{packet_in, packet_behind, packet_letter, packet_payload}
+use Rattle.channel_msgs.specs.Packet.{packet_in, packet_behind, packet_letter}
 use Rattle.channel_msgs.specs.Read.{request_of}
 use Rattle.channel_msgs.specs.View.{RequestView}
 use Rattle.ms_base.specs.declared.id.Id.{Id}
@@ -11,26 +9,15 @@ use Rattle.ms_base.specs.Id.{id_of_text}
 use Rattle.rtp_packet.specs.Packet.{Fields, IsPacket, AreBytes}
 use Rattle.rtp_packet.specs.Fault.{fault_of, Parses}
 use Rattle.rtp_packet.specs.Reading.{fields_of}
-use Rattle.rtp_packet.specs.Rewriting.{rewritten, with_fields}
-use Rattle.rtp_params.specs.declared.encoding.Encoding.{Encoding}
-use Rattle.rtp_params.specs.declared.mapping.Mapping.{Mapping}
-use Rattle.rtp_params.specs.declared.params.Params.{Params}
-use Rattle.rtp_params.specs.Readable.{Each}
-use Rattle.seq_manager.specs.Calls.{Call, sync, input, AreSequenceNumbers, stretches, state_after, answers}
+use Rattle.seq_manager.specs.Calls.{Call, sync, input, AreSequenceNumbers, state_after, answers}
 use Rattle.seq_manager.specs.Numbering.{Numbering, unnumbered, output_number, output_by}
-use Rattle.seq_manager.specs.Outputs.{sent_numbers}
 use Rattle.worker_engine.specs.Lower.{LowerLaws}
-use Rattle.worker_engine.specs.declared.producer.Taken.{Taken}
-use Rattle.worker_engine.specs.Objects.{Consumer, Producer, Router, Worker, ProducerKey, nothing_yet, same_id, direct_key, router_of, producer_of, producer_at, consumer_of}
-use Rattle.worker_engine.specs.Packets.{max_packet, served_fields, mapped_to, mapped_ssrc, mapped_type, taken_as, taken, has_payload_type, own_ssrc, is_active, passes, passed_by, passed_on, Received, received_as, received_by, received}
-use Rattle.worker_engine.specs.PacketTables.{AreTypes, AreSsrcs}
-use Rattle.worker_engine.specs.Run.{Event, payload, datagram, Heard, packet, request, nothing, request_or_nothing, packet_or_else, heard_in, heard_at, after_heard, after, after_all, worker_after, passed_payload}
-use Rattle.worker_engine.specs.Emits.{ConsumerKey, consumer_at, is_active_in, same_key, if_key, received_heard, received_at, Passed, passed_of, passed_at, input_of, sync_where, calls_at, calls_from, stretches_of, last_number, latest_number, emission, key_in, emitted_payload}
+use Rattle.worker_engine.specs.Objects.{Consumer, Producer, Worker, ProducerKey, nothing_yet, direct_key, producer_at}
+use Rattle.worker_engine.specs.Packets.{max_packet, served_fields, taken, passed_by, Received, received_as, received_by, received}
+use Rattle.worker_engine.specs.Run.{Event, payload, datagram, Heard, packet, request, nothing, request_or_nothing, packet_or_else, heard_at, after_heard, after, after_all, worker_after}
+use Rattle.worker_engine.specs.Emits.{ConsumerKey, consumer_at, is_active_in, same_key, if_key, received_heard, Passed, passed_of, passed_at, input_of, sync_where, calls_at, calls_from, last_number, latest_number}
 use Rattle.worker_engine.specs.Laws.{AreEventBytes, AreEvents}
-use Rattle.worker_engine.proofs.LookUps.{found-holds}
-use Rattle.worker_engine.proofs.TableLemmas.{type-fits}
-use Rattle.worker_engine.proofs.Sound.{IsSoundProducer, IsSoundRouter, IsSound}
-use Rattle.worker_engine.proofs.Stretches.{passed_heard, calls_heard, state-behind}
+use Rattle.worker_engine.proofs.Stretches.{passed_heard, calls_heard}
 
 -- ---- options
 
@@ -68,8 +55,7 @@ served-is : (bytes : List ℕ) (f : Fields) → served_fields bytes ≡ Some f �
 unfolding served_fields
 served-is bytes f h =
     let pick = chosen _ (fields_of bytes) f h in
-    let outer = both (nat_le (length bytes) max_packet && not (is_some (fault_of bytes))) _ pick.0 in
-    let inner = both (nat_le (length bytes) max_packet) _ outer.0 in
+    let inner = both (nat_le (length bytes) max_packet) _ pick.0 in
     (pick.1, not-some (fault_of bytes) inner.1)
 
 pub received-is : (w : Worker) (id : Id) (bytes : List ℕ) (r : Received) → received w id bytes ≡ Some r → IsReceived w bytes r
@@ -155,7 +141,7 @@ passed-is w h key p e =
     let of = and-then-some (if_key key.producer) (received_heard w h) got.0 got.1 in
     let same : of.0 ≡ got.0 = key-is key.producer of.0 got.0 of.2 in
     let pair = and-then-some (passed_of got.0) (consumer_at w key) p got.2 in
-    let made = map-some (λ ssrc. record { received = got.0; ssrc = ssrc }) (passed_by pair.0.0 pair.0.1 got.0.taken) p pair.2 in
+    let made = map-some (λ ssrc. record { received = got.0; consumer = pair.0.1; ssrc = ssrc }) (passed_by pair.0.0 pair.0.1 got.0.taken) p pair.2 in
     subst (IsPassed w h key) made.2 (record {
       heard = of.1 ∙ ap Some same;
       pair = pair.0;

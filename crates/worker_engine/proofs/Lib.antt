@@ -3,6 +3,7 @@ pub mod Changes
 pub mod Emitted
 pub mod EngineLemmas
 pub mod Lends
+pub mod IdLemmas
 pub mod LookUps
 pub mod Made
 pub mod Output

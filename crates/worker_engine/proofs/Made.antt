@@ -1,5 +1,5 @@
 -- What a request makes is new.
-use Rattle.std.proofs.Common.{◌≡◌, ℕ, List, [], Bool, true, false, cond, Option, Some, None, option_and_then, Result, Ok, Err, refl, subst}
+use Rattle.std.proofs.Common.{◌≡◌, [], Bool, true, false, cond, Option, Some, None, option_and_then, Result, Ok, Err, refl, subst}
 use Rattle.std.specs.Prelude.{⊤, IfOk, is_some}
 use Rattle.serde_json.specs.Data.{Data}
 use Rattle.channel_msgs.specs.View.{RequestView}
@@ -11,7 +11,7 @@ use Rattle.worker_engine.specs.declared.refusal.Refusal.TheVariants as refusal
 use Rattle.worker_engine.specs.Objects.{Router, Worker, router_of, has_transport, has_consumer, producer_of}
 use Rattle.worker_engine.specs.Contents.{produce_content, consume_content, direct_content}
 use Rattle.worker_engine.specs.PacketTables.{AreTypes, AreSsrcs}
-use Rattle.worker_engine.specs.Requests.{◌>>=◌, Named, create_router, create_direct_transport, produce, consume, named, or_fault, router_with, router_with_transport, has_producer, Made, a_router, a_transport, a_producer, a_consumer, clashes, new_router, new_producer, new_consumer, refused_where, made_router, made_transport, made_producer, made_consumer, made_named, made}
+use Rattle.worker_engine.specs.Requests.{◌>>=◌, Named, create_router, create_direct_transport, produce, consume, named, or_fault, router_with, router_with_transport, has_producer, Made, a_router, a_transport, a_producer, a_consumer, clashes, refused_where, made_router, made_transport, made_producer, made_consumer, made_named, made}
 use Rattle.worker_engine.proofs.ReadParts.{content-types, content-ssrcs}
 
 -- a Router has an id that none has and no Producers, a Producer no Consumers, and a Consumer an id that none of the Router has and no

@@ -1,35 +1,34 @@
 -- The laws of what a worker gives out, and of what a Consumer emits.
-use Rattle.std.proofs.Common.{◌≡◌, ℕ, ◌<◌, ◌≤◌, ◌==◌, ◌^◌, List, [], ◌∷◌, ◌++◌, Bool, true, false, cond, ◌&&◌, not, map, length, drop, Option, Some, None, option_map, option_and_then, refl, sym, ap, subst, ◌∙◌, append_assoc, arith}
+use Rattle.std.proofs.Common.{◌≡◌, ℕ, ◌<◌, ◌≤◌, ◌==◌, ◌^◌, List, [], ◌∷◌, ◌++◌, Bool, true, false, cond, ◌&&◌, not, map, length, Option, Some, None, option_map, option_and_then, refl, sym, ap, subst, ◌∙◌, arith}
 use Rattle.std.specs.Prelude.{is_some}
-use Rattle.std.specs.List.{find, filter_map, cons_option}
+use Rattle.std.specs.List.{filter_map, cons_option}
 use Rattle.std.proofs.lemmas.List.{append-nil}
-use Rattle.byteorder.specs.Endian.{big_bytes, big_number}
 use Rattle.channel_msgs.specs.Packet.{packet_payload}
 use Rattle.ms_base.specs.declared.id.Id.{Id}
-use Rattle.rtp_packet.specs.Packet.{Fields, IsPacket, AreBytes}
+use Rattle.rtp_packet.specs.Packet.{Fields, IsPacket, AreBytes, packet_of}
 use Rattle.rtp_packet.specs.Reading.{fields_of}
-use Rattle.rtp_packet.specs.Rewriting.{rewritten, with_fields}
+use Rattle.rtp_packet.specs.Rewriting.{with_fields}
+use Rattle.rtp_extension.specs.Reading.{elements_of}
+use Rattle.rtp_extension.specs.Rewriting.{with_ids, kept_of}
 use Rattle.rtp_params.specs.declared.encoding.Encoding.{Encoding}
-use Rattle.rtp_params.specs.declared.mapping.Mapping.{Mapping}
-use Rattle.rtp_params.specs.declared.params.Params.{Params}
 use Rattle.rtp_params.specs.Readable.{Each}
 use Rattle.seq_manager.specs.Calls.{Call, state_after, answers}
 use Rattle.seq_manager.specs.Numbering.{Numbering, unnumbered, numbered, output_number}
 use Rattle.seq_manager.specs.Outputs.{sent_numbers}
 use Rattle.worker_engine.specs.Lower.{LowerLaws}
 use Rattle.worker_engine.specs.declared.producer.Taken.{Taken}
-use Rattle.worker_engine.specs.Objects.{Consumer, Producer, Router, Worker, ProducerKey, nothing_yet, same_id, router_of, producer_of, producer_at, consumer_of}
-use Rattle.worker_engine.specs.Packets.{mapped_ssrc, mapped_type, taken_as, taken, has_payload_type, own_ssrc, is_active, passes, passed_by, passed_on, Received, received}
-use Rattle.worker_engine.specs.PacketTables.{AreTypes, AreSsrcs}
-use Rattle.worker_engine.specs.Requests.{reply_payload}
-use Rattle.worker_engine.specs.Run.{Event, Outgoing, say, Heard, packet, request, nothing, heard_at, after, after_all, worker_after, passed_payload, received_payloads, said_of, said, said_from}
-use Rattle.worker_engine.specs.Emits.{ConsumerKey, consumer_at, is_active_in, input_of, sync_where, stretches_of, emits, same_key, if_key, received_heard, received_at, Passed, passed_of, passed_at, calls_at, calls_from, latest_number, emission, emits_behind, key_in, emitted_payload, emitted_payloads, out_heard, out_at, out_behind}
+use Rattle.worker_engine.specs.Objects.{Consumer, Producer, Worker, ProducerKey, nothing_yet, same_id, router_of, producer_of, producer_at, consumer_of}
+use Rattle.worker_engine.specs.Packets.{mapped_ssrc, mapped_type, taken_as, has_payload_type, own_ssrc, is_active, passes, passed_id, passed_by, passed_on, Received, received}
+use Rattle.worker_engine.specs.PacketTables.{AreSsrcs}
+use Rattle.worker_engine.specs.Run.{Event, Outgoing, say, Heard, packet, request, nothing, heard_at, after, worker_after, passed_payload, received_payloads, said_of, said, said_from}
+use Rattle.worker_engine.specs.Emits.{ConsumerKey, consumer_at, is_active_in, input_of, sync_where, stretches_of, emits, if_key, received_heard, received_at, Passed, passed_of, passed_at, calls_at, calls_from, latest_number, emitted_fields, emission, emits_behind, key_in, emitted_payload, emitted_payloads, out_heard, out_at, out_behind}
 use Rattle.worker_engine.specs.Laws.{AreEvents}
 use Rattle.worker_engine.proofs.LookUps.{same-refl, found-holds}
 use Rattle.worker_engine.proofs.TableLemmas.{type-fits}
+use Rattle.worker_engine.proofs.IdLemmas.{passed-are-ids}
 use Rattle.worker_engine.proofs.Sound.{IsSoundProducer, IsSoundRouter, IsSound, sound-worker}
 use Rattle.worker_engine.proofs.Stretches.{numbering-is, state-behind}
-use Rattle.worker_engine.proofs.Emitted.{and-then-some, map-some, IsReceived, received-is, packet-is, heard-bytes, heard-received, IsPassed, passed-is, all-fit, after-more, calls-more, events-more, events-parts, latest-is, output-fits}
+use Rattle.worker_engine.proofs.Emitted.{and-then-some, map-some, received-is, packet-is, heard-bytes, heard-received, passed-is, all-fit, after-more, calls-more, events-more, events-parts, latest-is, output-fits}
 
 -- ---- what is found in a sound worker
 
@@ -51,10 +50,10 @@ each-of P Q so (x ∷ xs) each = (so x each.0, each-of P Q so xs each.1)
 
 -- the payload of a Consumer that passes it on under an SSRC, or doesn't
 payload-by : (r : Received) (c : Consumer) (number : ℕ) (o : Option ℕ) → ((ssrc : ℕ) → o ≡ Some ssrc → number ≡ output_number c.numbering r.fields.seq)
-    → option_map (λ ssrc. packet_payload c.id (passed_on r.packet r.taken (output_number c.numbering r.fields.seq) ssrc)) o
-    ≡ option_map (packet_payload c.id) (option_map (λ (p : Passed). passed_on p.received.packet p.received.taken number p.ssrc) (option_map (λ ssrc. record { received = r; ssrc = ssrc }) o))
+    → option_map (λ ssrc. packet_payload c.id (passed_on r.fields (passed_id r.producer c) r.taken (output_number c.numbering r.fields.seq) ssrc)) o
+    ≡ option_map (packet_payload c.id) (option_map (λ (p : Passed). packet_of (emitted_fields p number)) (option_map (λ ssrc. record { received = r; consumer = c; ssrc = ssrc }) o))
 payload-by r c number None h = refl
-payload-by r c number (Some ssrc) h = ap (λ n. Some (packet_payload c.id (passed_on r.packet r.taken n ssrc))) (sym (h ssrc refl))
+payload-by r c number (Some ssrc) h = ap (λ n. Some (packet_payload c.id (passed_on r.fields (passed_id r.producer c) r.taken n ssrc))) (sym (h ssrc refl))
 
 module _ (laws : LowerLaws) (before : List Event) (e : Event) (are : AreEvents (before ++ e ∷ [])) where
   -- a Consumer of the Producer that receives the packet
@@ -71,10 +70,10 @@ module _ (laws : LowerLaws) (before : List Event) (e : Event) (are : AreEvents (
       ap (option_and_then (λ q. option_and_then (passed_of q) (consumer_at w key))) keyed ∙ ap (option_and_then (passed_of r)) at in
       let number : (ssrc : ℕ) → passed_by r.producer c r.taken ≡ Some ssrc → latest_number (before ++ e ∷ []) key ≡ output_number c.numbering r.fields.seq =
       λ ssrc is.
-      latest-is laws before e key (record { received = r; ssrc = ssrc }) are (passed ∙ ap (option_map (λ s. record { received = r; ssrc = s })) is)
+      latest-is laws before e key (record { received = r; consumer = c; ssrc = ssrc }) are (passed ∙ ap (option_map (λ s. record { received = r; consumer = c; ssrc = s })) is)
       ∙ ap (λ (s : Numbering). output_number s r.fields.seq) (sym (numbering-is laws before key r.producer c at)) in
       payload-by r c (latest_number (before ++ e ∷ []) key) (passed_by r.producer c r.taken) number
-      ∙ ap (λ o. option_map (packet_payload c.id) (option_map (λ (p : Passed). passed_on p.received.packet p.received.taken (latest_number (before ++ e ∷ []) key) p.ssrc) o)) (sym passed)
+      ∙ ap (λ o. option_map (packet_payload c.id) (option_map (λ (p : Passed). packet_of (emitted_fields p (latest_number (before ++ e ∷ []) key))) o)) (sym passed)
 
   received-same : (id : Id) (bytes : List ℕ) → heard_at e ≡ packet id bytes → (o : Option Received) → received (worker_after before) id bytes ≡ o
       → received_payloads o ≡ emitted_payloads before e o
@@ -111,10 +110,6 @@ said-is-output laws events are = said-all laws [] events tt are
 
 -- ---- the numbers of what a Consumer emits
 
-seq-rewritten : LowerLaws → (bytes : List ℕ) (f : Fields) (n ssrc t : ℕ) → n < 2 ^ 16 → ssrc < 2 ^ 32 → t < 128 → IsPacket f bytes → (fields_of (rewritten bytes n ssrc t)).seq ≡ n
-seq-rewritten laws bytes f n ssrc t fn fs ft is =
-    ap (λ (g : Fields). g.seq) (laws.fields (rewritten bytes n ssrc t) (with_fields f n ssrc t) (laws.is_rewritten bytes f n ssrc t fn fs ft is))
-
 own-fits : (b : Bool) (e : Encoding) (n : ℕ) (rest : Option ℕ) → e.ssrc ≤ 4294967295 → (rest ≡ Some n → n ≤ 4294967295) → cond b (Some e.ssrc) rest ≡ Some n → n ≤ 4294967295
 own-fits true e n rest fits h is = let same : e.ssrc ≡ n = cc in omega arith
 own-fits false e n rest fits h is = h is
@@ -142,6 +137,7 @@ taken-type None t x h = absurd cc
 pub record IsWellPassed (before : List Event) (e : Event) (key : ConsumerKey) (p : Passed) : Type 0 where
   pub numbering : Numbering
   pub state : numbering ≡ state_after unnumbered (calls_from nothing_yet before key)
+  pub are_bytes : AreBytes p.received.packet
   pub is_packet : IsPacket p.received.fields p.received.packet
   pub ssrc_fits : p.ssrc < 2 ^ 32
   pub type_fits : p.received.taken.payload_type < 128
@@ -165,24 +161,78 @@ well-passed laws before e key p are h =
     record {
       numbering = is.pair.1.numbering;
       state = numbering-is laws before key is.pair.0 is.pair.1 is.there;
+      are_bytes = subst AreBytes (sym got.2.packet_is) got.1;
       is_packet = packet-is laws w got.0 p.received got.1 got.2;
       ssrc_fits = omega arith;
       type_fits = omega arith;
     }
 
-pub emitted-is : LowerLaws → (before : List Event) (e : Event) (key : ConsumerKey) (p : Passed) (bytes : List ℕ) → AreEvents (before ++ e ∷ [])
-    → passed_at (worker_after before) e key ≡ Some p → emission before key e ≡ Some bytes
-    → IsPacket (with_fields p.received.fields (latest_number (before ++ e ∷ []) key) p.ssrc p.received.taken.payload_type) bytes
-emitted-is laws before e key p bytes are h em =
+-- the packet under a number is one
+under-number : LowerLaws → (before : List Event) (e : Event) (key : ConsumerKey) (p : Passed) (n : ℕ) → n < 2 ^ 16 → IsWellPassed before e key p
+    → IsPacket (emitted_fields p n) (packet_of (emitted_fields p n))
+under-number laws before e key p n fits well =
+    let ids : ℕ → Option ℕ = passed_id p.received.producer p.consumer in
+    let renamed : Fields = with_ids ids p.received.fields in
+    let whole = laws.is_rewritten (packet_of renamed) renamed n p.ssrc p.received.taken.payload_type fits well.ssrc_fits well.type_fits
+    (laws.renamed ids p.received.fields p.received.packet well.are_bytes well.is_packet) in
+    record { fits = whole.fits; written = refl }
+
+seq-under : LowerLaws → (before : List Event) (e : Event) (key : ConsumerKey) (p : Passed) (n : ℕ) → n < 2 ^ 16 → IsWellPassed before e key p
+    → (fields_of (packet_of (emitted_fields p n))).seq ≡ n
+seq-under laws before e key p n fits well =
+    ap (λ (g : Fields). g.seq) (laws.fields (packet_of (emitted_fields p n)) (emitted_fields p n) (under-number laws before e key p n fits well))
+
+-- what is so of an emitted packet
+record IsEmitted (before : List Event) (e : Event) (key : ConsumerKey) (p : Passed) (bytes : List ℕ) : Type 0 where
+  well : IsWellPassed before e key p
+  is : packet_of (emitted_fields p (latest_number (before ++ e ∷ []) key)) ≡ bytes
+  is_packet : IsPacket (emitted_fields p (latest_number (before ++ e ∷ []) key)) bytes
+
+emitted : LowerLaws → (before : List Event) (e : Event) (key : ConsumerKey) (p : Passed) (bytes : List ℕ) → AreEvents (before ++ e ∷ [])
+    → passed_at (worker_after before) e key ≡ Some p → emission before key e ≡ Some bytes → IsEmitted before e key p bytes
+emitted laws before e key p bytes are h em =
     let well = well-passed laws before e key p are h in
     let latest : ℕ = latest_number (before ++ e ∷ []) key in
     let number : latest ≡ output_number (state_after unnumbered (calls_from nothing_yet before key)) p.received.fields.seq = latest-is laws before e key p are h in
     let fits : latest < 2 ^ 16 = omega (arith, output-fits (state_after unnumbered (calls_from nothing_yet before key)) p.received.fields.seq) in
-    let made = map-some (λ (q : Passed). passed_on q.received.packet q.received.taken latest q.ssrc) (passed_at (worker_after before) e key) bytes em in
+    let made = map-some (λ (q : Passed). packet_of (emitted_fields q latest)) (passed_at (worker_after before) e key) bytes em in
     let same : made.0 ≡ p = cc (made.1, h) in
-    subst (λ (b : List ℕ). IsPacket (with_fields p.received.fields latest p.ssrc p.received.taken.payload_type) b)
-    (ap (λ (q : Passed). passed_on q.received.packet q.received.taken latest q.ssrc) (sym same) ∙ made.2)
-    (laws.is_rewritten p.received.packet p.received.fields latest p.ssrc p.received.taken.payload_type fits well.ssrc_fits well.type_fits well.is_packet)
+    let written : packet_of (emitted_fields p latest) ≡ bytes = ap (λ (q : Passed). packet_of (emitted_fields q latest)) (sym same) ∙ made.2 in
+    record {
+      well = well;
+      is = written;
+      is_packet = subst (λ (b : List ℕ). IsPacket (emitted_fields p latest) b) written (under-number laws before e key p latest fits well);
+    }
+
+pub emitted-is : LowerLaws → (before : List Event) (e : Event) (key : ConsumerKey) (p : Passed) (bytes : List ℕ) → AreEvents (before ++ e ∷ [])
+    → passed_at (worker_after before) e key ≡ Some p → emission before key e ≡ Some bytes
+    → IsPacket (emitted_fields p (latest_number (before ++ e ∷ []) key)) bytes
+emitted-is laws before e key p bytes are h em = (emitted laws before e key p bytes are h em).is_packet
+
+pub received-packet : LowerLaws → (before : List Event) (e : Event) (key : ConsumerKey) (p : Passed) → AreEvents (before ++ e ∷ []) → passed_at (worker_after before) e key ≡ Some p
+    → IsPacket p.received.fields p.received.packet
+received-packet laws before e key p are h = (well-passed laws before e key p are h).is_packet
+
+pub emitted-elements : LowerLaws → (before : List Event) (e : Event) (key : ConsumerKey) (p : Passed) (bytes : List ℕ) → AreEvents (before ++ e ∷ [])
+    → passed_at (worker_after before) e key ≡ Some p → emission before key e ≡ Some bytes
+    → elements_of (fields_of bytes).extension ≡ kept_of (passed_id p.received.producer p.consumer) p.received.fields.extension
+emitted-elements laws before e key p bytes are h em =
+    let is = emitted laws before e key p bytes are h em in
+    ap (λ (g : Fields). elements_of g.extension) (laws.fields bytes (emitted_fields p (latest_number (before ++ e ∷ []) key)) is.is_packet)
+    ∙ laws.elements (passed_id p.received.producer p.consumer) p.received.fields p.received.packet is.well.are_bytes (passed-are-ids p.received.producer p.consumer) is.well.is_packet
+
+-- the three fields have their places whatever they are
+as-long : (f : Fields) (n ssrc t : ℕ) → length (packet_of (with_fields f n ssrc t)) ≡ length (packet_of f)
+as-long f n ssrc t = refl
+
+pub emitted-no-longer : LowerLaws → (before : List Event) (e : Event) (key : ConsumerKey) (p : Passed) (bytes : List ℕ) → AreEvents (before ++ e ∷ [])
+    → passed_at (worker_after before) e key ≡ Some p → emission before key e ≡ Some bytes → length bytes ≤ length p.received.packet
+emitted-no-longer laws before e key p bytes are h em =
+    let is = emitted laws before e key p bytes are h em in
+    let ids : ℕ → Option ℕ = passed_id p.received.producer p.consumer in
+    let renamed : Fields = with_ids ids p.received.fields in
+    let size : length bytes ≡ length (packet_of renamed) = sym (ap length is.is) ∙ as-long renamed (latest_number (before ++ e ∷ []) key) p.ssrc p.received.taken.payload_type in
+    subst (λ n. n ≤ length p.received.packet) (sym size) (laws.no_longer ids p.received.fields p.received.packet is.well.are_bytes is.well.is_packet)
 
 -- ---- all that a Consumer emits
 
@@ -212,12 +262,12 @@ emits-all laws before (e ∷ es) key are more =
     let s : Numbering = state_after unnumbered calls in
     let starts : Bool = not (is_active_in w key) && is_active_in (after w e) key in
     let latest : ℕ = latest_number (before ++ e ∷ []) key in
-    let numbers : (p : Passed) → passed_at w e key ≡ Some p → seq_of (passed_on p.received.packet p.received.taken latest p.ssrc) ≡ output_number s p.received.fields.seq =
+    let numbers : (p : Passed) → passed_at w e key ≡ Some p → seq_of (packet_of (emitted_fields p latest)) ≡ output_number s p.received.fields.seq =
     λ p is.
     let well = well-passed laws before e key p now is in
     let number : latest ≡ output_number s p.received.fields.seq = latest-is laws before e key p now is in
     let fits : latest < 2 ^ 16 = omega (arith, output-fits s p.received.fields.seq) in
-    seq-rewritten laws p.received.packet p.received.fields latest p.ssrc p.received.taken.payload_type fits well.ssrc_fits well.type_fits well.is_packet ∙ number in
+    seq-under laws before e key p latest fits well ∙ number in
     let behind : state_after unnumbered (calls_from nothing_yet (before ++ e ∷ []) key) ≡ state_after s (calls_at w e key) =
     ap (state_after unnumbered) (calls-more nothing_yet before (e ∷ []) key ∙ ap (λ (t : List Call). calls ++ t) (append-nil (calls_at w e key)))
     ∙ state-behind unnumbered calls (calls_at w e key) in
@@ -225,7 +275,7 @@ emits-all laws before (e ∷ es) key are more =
     emits-all laws (before ++ e ∷ []) es key now more.1
     ∙ (ap (λ (m : Numbering). answers m (calls_from (worker_after (before ++ e ∷ [])) es key)) behind
     ∙ ap (λ (v : Worker). answers (state_after s (calls_at w e key)) (calls_from v es key)) (after-more nothing_yet before (e ∷ []))) in
-    one-number s (passed_at w e key) starts (λ p. passed_on p.received.packet p.received.taken latest p.ssrc) numbers (emits_behind (before ++ e ∷ []) es key)
+    one-number s (passed_at w e key) starts (λ p. packet_of (emitted_fields p latest)) numbers (emits_behind (before ++ e ∷ []) es key)
     ∙ (ap (λ (t : List ℕ). answers s (calls_at w e key) ++ t) later ∙ sym (laws.going s (calls_at w e key) (calls_from (after w e) es key)))
 
 pub emits-numbered : LowerLaws → (events : List Event) (key : ConsumerKey) → AreEvents events
@@ -249,14 +299,14 @@ pub emits-passed : (before : List Event) (e : Event) (key : ConsumerKey) (r : Re
     → is_some (emission before key e) ≡ (is_active p c && has_payload_type c.params r.taken.payload_type && is_some (own_ssrc c.mapped c.params.encodings r.taken.ssrc))
 emits-passed before e key r p c got there =
     let w : Worker = worker_after before in
-    let mk : Passed → List ℕ = λ q. passed_on q.received.packet q.received.taken (latest_number (before ++ e ∷ []) key) q.ssrc in
+    let mk : Passed → List ℕ = λ q. packet_of (emitted_fields q (latest_number (before ++ e ∷ []) key)) in
     let at : passed_at w e key ≡ passed_of r (p, c) = ap (option_and_then (λ q. option_and_then (passed_of q) (consumer_at w key))) got ∙ ap (option_and_then (passed_of r)) there in
     ap (λ o. is_some (option_map mk o)) at
-    ∙ (some-maps mk (λ ssrc. record { received = r; ssrc = ssrc }) (passed_by p c r.taken)
+    ∙ (some-maps mk (λ ssrc. record { received = r; consumer = c; ssrc = ssrc }) (passed_by p c r.taken)
     ∙ passes-by (is_active p c) (has_payload_type c.params r.taken.payload_type) (own_ssrc c.mapped c.params.encodings r.taken.ssrc))
 
 pub emits-received : (before : List Event) (e : Event) (key : ConsumerKey) → received_at (worker_after before) e key.producer ≡ None → emission before key e ≡ None
 emits-received before e key none =
     ap
-    (λ o. option_map (λ (q : Passed). passed_on q.received.packet q.received.taken (latest_number (before ++ e ∷ []) key) q.ssrc)
+    (λ o. option_map (λ (q : Passed). packet_of (emitted_fields q (latest_number (before ++ e ∷ []) key)))
     (option_and_then (λ r. option_and_then (passed_of r) (consumer_at (worker_after before) key)) o)) none

@@ -1,5 +1,5 @@
 -- What a packet does to a Consumer and its Producer.
-use Rattle.std.proofs.Common.{◌≡◌, ℕ, List, [], ◌∷◌, Bool, true, false, cond, ◌&&◌, map, Option, Some, None, option_map, option_and_then, refl, sym, ap, ◌∙◌}
+use Rattle.std.proofs.Common.{◌≡◌, ℕ, List, Bool, true, false, cond, ◌&&◌, map, Option, Some, None, option_map, option_and_then, refl, ap, ◌∙◌}
 use Rattle.std.specs.Prelude.{is_some}
 use Rattle.std.specs.List.{find}
 use Rattle.ms_base.specs.declared.id.Id.{Id}
@@ -7,7 +7,7 @@ use Rattle.seq_manager.specs.Numbering.{numbered}
 use Rattle.worker_engine.specs.declared.producer.Taken.{Taken}
 use Rattle.worker_engine.specs.Objects.{Consumer, Producer, Router, ProducerKey, same_id, producer_of, consumer_of}
 use Rattle.worker_engine.specs.Packets.{passed_by}
-use Rattle.worker_engine.specs.Requests.{change_router, change_producer}
+use Rattle.worker_engine.specs.Requests.{change_producer}
 use Rattle.worker_engine.specs.Run.{numbered_for, with_numbered}
 use Rattle.worker_engine.specs.Emits.{ConsumerKey, same_key}
 use Rattle.worker_engine.proofs.LookUps.{same-at, find-map, found-passes, and-then-same, and-then-map}

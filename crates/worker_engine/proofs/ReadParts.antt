@@ -1,21 +1,17 @@
 -- What holds of the contents that the reading rules give.
-use Rattle.std.proofs.Common.{◌≡◌, ℕ, ◌≤◌, List, [], ◌∷◌, ◌++◌, Bool, true, false, cond, Option, Some, None, option_and_then, Result, Ok, Err, codes, refl, subst}
+use Rattle.std.proofs.Common.{◌≡◌, ◌≤◌, Bool, true, false, cond, Option, Some, None, option_and_then, Result, Ok, Err, codes, refl, subst, ◌∙◌}
 use Rattle.serde_json.specs.Data.{Data, Members}
-use Rattle.serde_json.specs.Find.{get_member, as_array}
+use Rattle.serde_json.specs.Find.{get_member}
 use Rattle.ms_base.specs.declared.code.Code.{Code}
-use Rattle.ms_base.specs.declared.code.Code.TheVariants as code
-use Rattle.ms_base.specs.declared.keys.Media.{Media}
-use Rattle.rtp_params.specs.declared.encoding.Encoding.{Encoding}
-use Rattle.rtp_params.specs.declared.mapping.Mapping.{Mapping}
 use Rattle.rtp_params.specs.declared.params.Params.{Params}
 use Rattle.rtp_params.specs.Encodings.{encodings_of}
 use Rattle.rtp_params.specs.Mappings.{mapping_of}
-use Rattle.rtp_params.specs.Readable.{Each, IsEncoding}
+use Rattle.rtp_params.specs.Readable.{IsEncoding}
 use Rattle.rtp_params.specs.Reading.{◌>>=◌, bool_of, object_of, required}
 use Rattle.rtp_params.specs.Whole.{params_of}
 use Rattle.worker_engine.proofs.LookUps.{each-imp}
 use Rattle.worker_engine.specs.Lower.{LowerLaws}
-use Rattle.worker_engine.specs.Contents.{read_well, media_of, ProduceContent, produce_in, served_produce, is_served, produce_content, ConsumeContent, consume_in, served_consume, is_simple_of, consume_content}
+use Rattle.worker_engine.specs.Contents.{read_well, media_of, ProduceContent, produce_in, valid_produce, served_produce, produce_content, ConsumeContent, consume_in, valid_consume, served_consume, is_simple_of, consume_content}
 use Rattle.worker_engine.specs.PacketTables.{AreTypes, AreSsrcs}
 
 -- ---- the lower crates' reading
@@ -62,8 +58,9 @@ produced-types laws ms c h =
 
 pub content-types : LowerLaws → (content : Option Data) (c : ProduceContent) → produce_content content ≡ Some c → AreTypes c.mapping.codecs
 content-types laws content c h =
-    let found = and-then-some served_produce (read_well _) c h in
-    let same : found.0 ≡ c = served-by (is_served found.0.params) found.0 c found.2 in
+    let served = and-then-some served_produce (option_and_then valid_produce (read_well (required object_of content >>= produce_in))) c h in
+    let found = and-then-some valid_produce (read_well _) served.0 served.1 in
+    let same : found.0 ≡ c = served-by _ found.0 served.0 found.2 ∙ served-by _ served.0 c served.2 in
     let members = bind-ok (required object_of content) produce_in found.0 (well-read _ found.0 found.1) in
     subst (λ (x : ProduceContent). AreTypes x.mapping.codecs) same (produced-types laws members.0 found.0 members.2)
 
@@ -81,7 +78,8 @@ consumed-ssrcs laws ms c h =
 
 pub content-ssrcs : LowerLaws → (content : Option Data) (c : ConsumeContent) → consume_content content ≡ Some c → AreSsrcs c.params.encodings
 content-ssrcs laws content c h =
-    let found = and-then-some served_consume (read_well _) c h in
-    let same : found.0 ≡ c = served-by _ found.0 c found.2 in
+    let served = and-then-some served_consume (option_and_then valid_consume (read_well (required object_of content >>= consume_in))) c h in
+    let found = and-then-some valid_consume (read_well _) served.0 served.1 in
+    let same : found.0 ≡ c = served-by _ found.0 served.0 found.2 ∙ served-by _ served.0 c served.2 in
     let members = bind-ok (required object_of content) consume_in found.0 (well-read _ found.0 found.1) in
     subst (λ (x : ConsumeContent). AreSsrcs x.params.encodings) same (consumed-ssrcs laws members.0 found.0 members.2)

@@ -1,5 +1,6 @@
 -- The Consumers of a Producer, one after the other: what each sends, and how a list is replaced item by item.
-use Rattle.std.proofs.Common.{◌≡◌, ℕ, zero, suc, ◌+◌, ◌<◌, ◌≤◌, List, [], ◌∷◌, ◌++◌, length, map, take, drop, slice_set, slice_index_or, Bool, true, false, Option, Some, None, Result, Ok, Err, refl, sym, ap, subst, ◌∙◌, arith, add-one, append_assoc}
+use Rattle.std.proofs.Common.{◌≡◌, ℕ, zero, suc, ◌+◌, ◌<◌, List, [], ◌∷◌, ◌++◌, length, map, take, drop, slice_set, slice_index_or, Bool, true, false, Option, Some, None, Result, Ok, Err, refl, sym, ap, subst, ◌∙◌, arith, add-one, append_assoc}
+use mathlib.Core.Path.{fun_ext}
 use Rattle.std.specs.Prelude.{IsSome, OnOk, OnErr}
 use Rattle.std.specs.List.{filter_map, cons_option}
 use Rattle.std.specs.Result.{is_err}
@@ -7,12 +8,15 @@ use Rattle.std.proofs.lemmas.List.{take_more, map-append, drop_all, append-nil}
 use Rattle.std.proofs.lemmas.List.Elements.{filter_map-append}
 use Rattle.std.proofs.Math.Seq.{take-length}
 use Rattle.rtp_packet.specs.Packet.{Fields}
-use Rattle.rtp_packet.specs.Reading.{fields_of}
+use Rattle.ms_base.specs.declared.keys.Media.{Media}
+use Rattle.rtp_params.specs.declared.params.Params.{Params}
+use Rattle.rtp_params.specs.Table.{sent_exts}
 use Rattle.ms_devices.specs.declared.events.OutCall.{OutCall}
 use Rattle.worker_engine.specs.declared.producer.Taken.{Taken}
 use Rattle.worker_engine.specs.Objects.{Consumer, Producer}
-use Rattle.worker_engine.specs.Packets.{taken}
-use Rattle.worker_engine.specs.Forwarding.{call_of, calls_of, call_if, Made, payload_under, numbered_by, StopsAfter, forwarded_payloads, payloads_as}
+use Rattle.worker_engine.specs.Packets.{taken, id_among, mapped_id}
+use Rattle.worker_engine.specs.PacketTables.{AreMappedIds}
+use Rattle.worker_engine.specs.Forwarding.{call_of, calls_of, call_if, Made, Incoming, incoming_of, incoming_by, payload_by, numbered_by, StopsAfter, forwarded_payloads, payloads_as}
 
 -- ---- a list whose items are replaced in their places
 
@@ -84,13 +88,13 @@ is-there : {A : Type 0} (o : Option A) → IsSome o → (x : A) × (o ≡ Some x
 is-there None s = absurd (let no : true ≡ false = sym s in cc)
 is-there (Some x) s = (x, refl)
 
-pub stops : (paused : Bool) (t : Taken) (packet : List ℕ) (xs new : List Consumer) (i : ℕ) (x : Consumer) (a b c : Option (List OutCall)) → i < length xs → x ≡ slice_index_or xs i x
-    → new ≡ map (numbered_by paused t packet) (take (i + 1) xs) ++ drop (i + 1) xs
-    → IsSome (payload_under paused t packet x)
-    → Made (calls_of (filter_map (payload_under paused t packet) (take i xs))) a b → Made (call_if true (payload_under paused t packet x)) b c
-    → StopsAfter paused t packet (i + 1) xs new a c
-stops paused t packet xs new i x a b c inside e state some first last =
-    let g : Consumer → Option (List ℕ) = payload_under paused t packet in
+pub stops : (p : Incoming) (xs new : List Consumer) (i : ℕ) (x : Consumer) (a b c : Option (List OutCall)) → i < length xs → x ≡ slice_index_or xs i x
+    → new ≡ map (numbered_by p) (take (i + 1) xs) ++ drop (i + 1) xs
+    → IsSome (payload_by p x)
+    → Made (calls_of (filter_map (payload_by p) (take i xs))) a b → Made (call_if true (payload_by p x)) b c
+    → StopsAfter p (i + 1) xs new a c
+stops p xs new i x a b c inside e state some first last =
+    let g : Consumer → Option (List ℕ) = payload_by p in
     let payload = is-there (g x) some in
     let sent : List (List ℕ) = filter_map g (take i xs) in
     record {
@@ -102,14 +106,25 @@ stops paused t packet xs new i x a b c inside e state some first last =
       calls = made-then (calls_of sent) (call_of true payload.0 ∷ []) a b c first (subst (λ (o : Option (List ℕ)). Made (call_if true o) b c) payload.1 last);
     }
 
-pub stops-as : (paused : Bool) (t : Taken) (packet : List ℕ) (n m : ℕ) (xs ys new out : List Consumer) (a c : Option (List OutCall)) → n ≡ m → xs ≡ ys → new ≡ out
-    → StopsAfter paused t packet n xs new a c → StopsAfter paused t packet m ys out a c
-stops-as paused t packet n m xs ys new out a c en ex eo s =
-    subst (λ k. StopsAfter paused t packet k ys out a c) en
-    (subst (λ (l : List Consumer). StopsAfter paused t packet n l out a c) ex (subst (λ (l : List Consumer). StopsAfter paused t packet n xs l a c) eo s))
+pub stops-as : (p : Incoming) (n m : ℕ) (xs ys new out : List Consumer) (a c : Option (List OutCall)) → n ≡ m → xs ≡ ys → new ≡ out
+    → StopsAfter p n xs new a c → StopsAfter p m ys out a c
+stops-as p n m xs ys new out a c en ex eo s =
+    subst (λ k. StopsAfter p k ys out a c) en
+    (subst (λ (l : List Consumer). StopsAfter p n l out a c) ex (subst (λ (l : List Consumer). StopsAfter p n xs l a c) eo s))
 
 -- ---- the Producer
 
-pub payloads-are : (p : Producer) (t : Taken) (packet : List ℕ) (f : Fields) → f ≡ fields_of packet → Some t ≡ taken p.params p.mapping f
-    → forwarded_payloads packet p ≡ filter_map (payload_under p.paused t packet) p.consumers
-payloads-are p t packet f same is = ap (λ (o : Option Taken). payloads_as o packet p) (sym (is ∙ ap (taken p.params p.mapping) same))
+pub payloads-are : (p : Producer) (t : Taken) (f : Fields) → Some t ≡ taken p.params p.mapping f → forwarded_payloads f p ≡ filter_map (payload_by (incoming_by p t f)) p.consumers
+payloads-are p t f is = ap (λ (o : Option Taken). payloads_as o f p) (sym is)
+
+-- with the table of ids that the Producer keeps
+pub incoming-is : (p : Producer) (t : Taken) (f : Fields) (media : Media) (params : Params) (paused : Bool) (ids : List (Option ℕ)) → media ≡ p.media → params ≡ p.params → paused ≡ p.paused
+    → AreMappedIds media params ids → incoming_of (record { fields = f; taken = t; ids = ids; producer_paused = paused }) ≡ incoming_by p t f
+incoming-is p t f media params paused ids em ep es are =
+    ap (λ (g : ℕ → Option ℕ). with-ids paused g) (fun_ext are)
+    ∙ (ap (λ (m : Media). with-ids paused (id_among (sent_exts m) params.exts)) em
+    ∙ (ap (λ (q : Params). with-ids paused (id_among (sent_exts p.media) q.exts)) ep
+    ∙ ap (λ (b : Bool). with-ids b (mapped_id p)) es))
+  where
+    with-ids : Bool → (ℕ → Option ℕ) → Incoming
+    with-ids paused g = record { fields = f; taken = t; ids = g; producer_paused = paused }

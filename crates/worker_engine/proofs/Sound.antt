@@ -1,22 +1,21 @@
 -- What holds of every state that events leave.
-use Rattle.std.proofs.Common.{◌≡◌, ℕ, ◌≤◌, List, [], ◌∷◌, ◌++◌, Bool, true, false, cond, ◌||◌, map, Option, Some, None, option_map, option_and_then, Result, Ok, Err, refl, sym, ap, subst, ◌∙◌}
-use Rattle.std.specs.Prelude.{⊤, IfOk, is_some}
+use Rattle.std.proofs.Common.{◌≡◌, ℕ, List, [], ◌∷◌, ◌++◌, Bool, true, false, cond, ◌||◌, map, Option, Some, None, option_map, Result, Ok, Err, refl, sym, ap, subst, ◌∙◌}
+use Rattle.std.specs.Prelude.{IfOk, is_some}
 use Rattle.std.specs.List.{find, list_any, flat_map}
 use Rattle.std.specs.Option.{option_or}
 use Rattle.std.proofs.lemmas.List.Folds.{find-append}
 use Rattle.ms_base.specs.declared.id.Id.{Id}
-use Rattle.channel_msgs.specs.View.{RequestView}
 use Rattle.rtp_params.specs.Readable.{Each}
 use Rattle.seq_manager.specs.Numbering.{numbered}
 use Rattle.worker_engine.specs.Lower.{LowerLaws}
 use Rattle.worker_engine.specs.declared.refusal.Refusal.{Refusal}
 use Rattle.worker_engine.specs.declared.producer.Taken.{Taken}
-use Rattle.worker_engine.specs.Objects.{Consumer, Producer, Router, Worker, ProducerKey, nothing_yet, same_id, router_of, producer_of, consumer_of, consumers_of, has_consumer}
+use Rattle.worker_engine.specs.Objects.{Consumer, Producer, Router, Worker, ProducerKey, nothing_yet, same_id, router_of}
 use Rattle.worker_engine.specs.Packets.{passed_by, Received, received}
 use Rattle.worker_engine.specs.PacketTables.{AreTypes, AreSsrcs}
 use Rattle.worker_engine.specs.Requests.{Made, a_router, a_transport, a_producer, a_consumer, made, change_router, change_producer, with_transport, with_producer, with_consumer, with_made, with_result}
-use Rattle.worker_engine.specs.Run.{Event, Heard, packet, request, nothing, heard_at, numbered_for, with_numbered, with_received, with_any_received, after_packet, after_request, after_heard, after, after_all, worker_after}
-use Rattle.worker_engine.proofs.LookUps.{same-is, same-refl, find-map, found-passes, found-holds, each-map, each-imp, each-push}
+use Rattle.worker_engine.specs.Run.{Event, Heard, packet, request, nothing, heard_at, numbered_for, with_numbered, with_any_received, after_heard, after, after_all, worker_after}
+use Rattle.worker_engine.proofs.LookUps.{same-is, same-refl, find-map, each-map, each-imp, each-push}
 use Rattle.worker_engine.proofs.Made.{IsNew, made-new}
 
 -- ---- lists of which each item is found by its id

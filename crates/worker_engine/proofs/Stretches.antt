@@ -1,18 +1,16 @@
 -- A Consumer's numbering is what its stretches leave.
-use Rattle.std.proofs.Common.{◌≡◌, ℕ, List, [], ◌∷◌, ◌++◌, Bool, true, false, cond, ◌&&◌, not, map, Option, Some, None, option_map, option_and_then, Result, Ok, Err, refl, sym, ap, subst, ◌∙◌, append_assoc}
-use Rattle.std.specs.Prelude.{⊤, IfOk, is_some}
+use Rattle.std.proofs.Common.{◌≡◌, ℕ, List, [], ◌∷◌, ◌++◌, Bool, true, false, cond, ◌&&◌, not, Option, Some, None, option_map, option_and_then, Result, Ok, Err, refl, sym, ap, subst, ◌∙◌, append_assoc}
+use Rattle.std.specs.Prelude.{IfOk, is_some}
 use Rattle.std.proofs.lemmas.List.{append-nil}
-use Rattle.channel_msgs.specs.View.{RequestView}
 use Rattle.seq_manager.specs.Calls.{Call, sync, input, state_after}
 use Rattle.seq_manager.specs.Numbering.{Numbering, unnumbered, next_stretch, numbered}
 use Rattle.worker_engine.specs.Lower.{LowerLaws}
 use Rattle.worker_engine.specs.declared.refusal.Refusal.{Refusal}
-use Rattle.worker_engine.specs.declared.producer.Taken.{Taken}
 use Rattle.worker_engine.specs.Objects.{Consumer, Producer, Worker, nothing_yet}
 use Rattle.worker_engine.specs.Packets.{is_active, passed_by, Received, received}
 use Rattle.worker_engine.specs.Requests.{Made, a_router, a_transport, a_producer, a_consumer, made, with_transport, with_producer, with_made, with_result}
-use Rattle.worker_engine.specs.Run.{Event, Heard, packet, request, nothing, heard_at, numbered_for, with_numbered, with_received, with_any_received, after_heard, after, after_all, worker_after}
-use Rattle.worker_engine.specs.Emits.{ConsumerKey, consumer_at, is_active_pair, is_active_in, same_key, if_key, received_heard, received_at, passed_of, Passed, passed_at, input_of, sync_where, calls_at, calls_from}
+use Rattle.worker_engine.specs.Run.{Event, Heard, packet, request, nothing, heard_at, with_numbered, with_received, with_any_received, after_heard, after, after_all, worker_after}
+use Rattle.worker_engine.specs.Emits.{ConsumerKey, consumer_at, is_active_pair, is_active_in, same_key, if_key, received_heard, passed_of, Passed, input_of, sync_where, calls_at, calls_from}
 use Rattle.worker_engine.proofs.Made.{IsNew, made-new}
 use Rattle.worker_engine.proofs.Changes.{in_routers, in_router, consumer-in, Kept, kept-refl, kept-change, kept-router, kept-producer, kept-consumer, adding}
 use Rattle.worker_engine.proofs.PacketChanges.{numbered_pair, routers-same, routers-other}
@@ -69,7 +67,7 @@ passed-step : (r : Received) (p : Producer) (c : Consumer) (calls : List Call) (
     → (cond (is_some o) (record c { numbering = numbered c.numbering r.fields.seq }) c).numbering
     ≡ state_after unnumbered
     (calls
-    ++ (input_of (option_map (λ ssrc. record { received = r; ssrc = ssrc }) o)
+    ++ (input_of (option_map (λ ssrc. record { received = r; consumer = c; ssrc = ssrc }) o)
     ++ sync_where (not (is_active p c) && is_active (with_numbered r.taken r.fields.seq p) (cond (is_some o) (record c { numbering = numbered c.numbering r.fields.seq }) c))))
 passed-step r p c calls None s =
     s ∙ ap (state_after unnumbered) (sym (ap (λ (t : List Call). calls ++ t) (still (is_active p c)) ∙ append-nil calls))

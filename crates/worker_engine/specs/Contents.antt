@@ -1,8 +1,9 @@
 -- The member `data` of a request, by the reading rules of parameters (this project's own). Every fault of it has one code, so a
 -- content is there or it isn't.
-use Rattle.std.specs.Prelude.{ℕ, ◌==◌, ◌&&◌, List, [], ◌∷◌, length, Bool, true, false, not, codes, bytes_eq, if◌then◌else◌, Option, Some, None, option_and_then, is_some, Result, Ok, Err}
+use Rattle.std.specs.Prelude.{ℕ, ◌==◌, ◌&&◌, ◌||◌, List, length, Bool, true, false, not, nat_lt, codes, bytes_eq, if◌then◌else◌, Option, Some, None, option_and_then, Result, Ok, Err}
+use Rattle.std.specs.List.{list_all}
 use Rattle.serde_json.specs.Data.{Data, Members}
-use Rattle.serde_json.specs.Find.{get_member, as_object}
+use Rattle.serde_json.specs.Find.{get_member}
 use Rattle.ms_base.specs.declared.code.Code.{Code}
 use Rattle.ms_base.specs.declared.keys.Media.{Media}
 use Rattle.ms_base.specs.declared.keys.Media.TheVariants.{Audio, Video}
@@ -12,7 +13,6 @@ use Rattle.rtp_params.specs.declared.mapping.Mapping.{Mapping}
 use Rattle.rtp_params.specs.declared.params.Params.{Params}
 use Rattle.rtp_params.specs.Encodings.{encodings_of}
 use Rattle.rtp_params.specs.Mappings.{mapping_of}
-use Rattle.rtp_params.specs.Names.{is_rtx}
 use Rattle.rtp_params.specs.Reading.{◌>>=◌, or_form, text_of, bool_of, object_of, required}
 use Rattle.rtp_params.specs.Whole.{params_of}
 
@@ -80,35 +80,46 @@ consume_in members = do
   simple ← required is_simple_of (get_member (codes "type") members)
   Ok (record { media = media; paused = paused; consumable = consumable; params = params; simple = simple })
 
--- ---- what is served today: one stream of audio, of one codec, without header extensions and retransmission
+-- ---- what a content must have besides the form of its members
+
+abbrev pub has_encodings : Params → Bool
+has_encodings params = nat_lt 0 (length params.encodings)
+
+-- one of the consumable encodings for each of its own, and one alone where it is simple
+abbrev pub is_matched : Bool → List Encoding → List Encoding → Bool
+is_matched simple consumable encodings = (length consumable == length encodings) && (not simple || length encodings == 1)
+
+-- a Producer has an encoding
+abbrev pub valid_produce : ProduceContent → Option ProduceContent
+valid_produce c = if has_encodings c.params then Some c else None
+
+-- a Consumer has an encoding, and as many as it consumes
+abbrev pub valid_consume : ConsumeContent → Option ConsumeContent
+valid_consume c = if has_encodings c.params && is_matched c.simple c.consumable c.params.encodings then Some c else None
+
+-- ---- what is served today: audio, one stream of it, and no pipe
 
 abbrev pub is_audio_media : Media → Bool
 is_audio_media Audio = true
 is_audio_media Video = false
 
-abbrev pub is_audio : Codec → Bool
-is_audio codec = is_audio_media codec.media
+abbrev pub are_audio : List Codec → Bool
+are_audio codecs = list_all (λ codec. is_audio_media codec.media) codecs
 
-abbrev pub is_served_codec : List Codec → Bool
-is_served_codec (codec ∷ []) = is_audio codec && not (is_rtx codec)
-is_served_codec other = false
-
-abbrev pub is_served_encoding : List Encoding → Bool
-is_served_encoding (encoding ∷ []) = not (is_some encoding.rtx)
-is_served_encoding other = false
-
-unfoldable pub is_served : Params → Bool
-is_served params = is_served_codec params.codecs && is_served_encoding params.encodings && (length params.exts == 0)
+-- it is named audio, and has no codec of video
+abbrev pub is_audio : Media → List Codec → Bool
+is_audio media codecs = is_audio_media media && are_audio codecs
 
 abbrev pub served_produce : ProduceContent → Option ProduceContent
-served_produce c = if is_served c.params then Some c else None
+served_produce c = if is_audio c.media c.params.codecs && length c.params.encodings == 1 then Some c else None
 
--- one encoding, and one SSRC that it stands for
 abbrev pub served_consume : ConsumeContent → Option ConsumeContent
-served_consume c = if is_served c.params && is_served_encoding c.consumable && c.simple then Some c else None
+served_consume c = if is_audio c.media c.params.codecs && c.simple then Some c else None
+
+-- ---- the contents
 
 abbrev pub produce_content : Option Data → Option ProduceContent
-produce_content content = option_and_then served_produce (read_well (required object_of content >>= produce_in))
+produce_content content = option_and_then served_produce (option_and_then valid_produce (read_well (required object_of content >>= produce_in)))
 
 abbrev pub consume_content : Option Data → Option ConsumeContent
-consume_content content = option_and_then served_consume (read_well (required object_of content >>= consume_in))
+consume_content content = option_and_then served_consume (option_and_then valid_consume (read_well (required object_of content >>= consume_in)))

@@ -1,15 +1,15 @@
 -- What a Consumer passes on of what its Producer receives, and what a worker gives out: over the whole list of events. How a
 -- Consumer's packets are numbered is that of its stretches: the packets between two times at which it becomes active (RFC 3550 has
 -- sequence numbers; the numbering is this project's own, and stands in seq_manager's `Outputs`).
-use Rattle.std.specs.Prelude.{ℕ, List, [], ◌∷◌, ◌++◌, ◌&&◌, Bool, true, false, not, map, filter_map, if◌then◌else◌, Option, Some, None, option_map, option_and_then}
+use Rattle.std.specs.Prelude.{ℕ, List, [], ◌∷◌, ◌++◌, ◌&&◌, Bool, false, not, map, filter_map, if◌then◌else◌, Option, Some, None, option_map, option_and_then}
 use Rattle.std.specs.List.{cons_option}
 use Rattle.seq_manager.specs.Calls.{Call, sync, input, stretches}
 use Rattle.seq_manager.specs.Outputs.{sent_numbers}
 use Rattle.ms_base.specs.declared.id.Id.{Id}
-use Rattle.rtp_packet.specs.Packet.{Fields}
+use Rattle.rtp_packet.specs.Packet.{Fields, packet_of}
 use Rattle.channel_msgs.specs.Packet.{packet_payload}
 use Rattle.worker_engine.specs.Objects.{Consumer, Producer, Worker, ProducerKey, nothing_yet, same_id, producer_at, consumer_of}
-use Rattle.worker_engine.specs.Packets.{Received, received, is_active, passed_by, passed_on}
+use Rattle.worker_engine.specs.Packets.{Received, received, is_active, passed_id, passed_by, passed_fields}
 use Rattle.worker_engine.specs.Requests.{reply_payload}
 use Rattle.worker_engine.specs.Run.{Event, Outgoing, say, Heard, packet, request, nothing, heard_at, after, worker_after, running_payload}
 
@@ -63,10 +63,11 @@ received_packets events key = received_behind [] events key
 -- a packet that a Consumer passes on, and the SSRC under which it does
 pub record Passed : Type 0 where
   pub received : Received
+  pub consumer : Consumer
   pub ssrc : ℕ
 
 abbrev pub passed_of : Received → Producer × Consumer → Option Passed
-passed_of r pc = option_map (λ ssrc. record { received = r; ssrc = ssrc }) (passed_by pc.0 pc.1 r.taken)
+passed_of r pc = option_map (λ ssrc. record { received = r; consumer = pc.1; ssrc = ssrc }) (passed_by pc.0 pc.1 r.taken)
 
 -- It is active, the packet has a payload type of its parameters, and the mapped SSRC of one of its encodings.
 abbrev pub passed_at : Worker → Event → ConsumerKey → Option Passed
@@ -104,11 +105,15 @@ latest_number events key = last_number (sent_numbers (stretches_of events key))
 
 -- ---- what it emits
 
+-- the fields under a number
+abbrev pub emitted_fields : Passed → ℕ → Fields
+emitted_fields p number = passed_fields p.received.fields (passed_id p.received.producer p.consumer) p.received.taken number p.ssrc
+
 -- The packet that the Consumer emits for an event behind others, or none: the received one with the output number of the stretches,
--- the Consumer's SSRC and the mapped payload type.
+-- the Consumer's SSRC, the mapped payload type, and of the elements those whose mapped id the Consumer's parameters have, under that.
 abbrev pub emission : List Event → ConsumerKey → Event → Option (List ℕ)
 emission before key e =
-    option_map (λ p. passed_on p.received.packet p.received.taken (latest_number (before ++ e ∷ []) key) p.ssrc) (passed_at (worker_after before) e key)
+    option_map (λ p. packet_of (emitted_fields p (latest_number (before ++ e ∷ []) key))) (passed_at (worker_after before) e key)
 
 abbrev pub emits_behind : List Event → List Event → ConsumerKey → List (List ℕ)
 emits_behind before [] key = []

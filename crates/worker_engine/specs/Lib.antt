@@ -10,4 +10,5 @@ pub mod Laws
 pub mod PacketTables
 pub mod Forwarding
 pub mod Rows
+pub mod ContentRows
 pub mod Lower

@@ -1,9 +1,10 @@
 -- What stands in a worker: its Routers, and in each of them transports, Producers and Consumers, in order of making. This project's
 -- own, after mediasoup's classes of these names.
-use Rattle.std.specs.Prelude.{ℕ, List, [], Bool, map, find, is_some, bytes_eq, Option, option_and_then}
+use Rattle.std.specs.Prelude.{ℕ, List, [], Bool, find, bytes_eq, Option, option_and_then}
 use Rattle.std.specs.List.{list_any, flat_map}
 use Rattle.seq_manager.specs.Numbering.{Numbering}
 use Rattle.ms_base.specs.declared.id.Id.{Id}
+use Rattle.ms_base.specs.declared.keys.Media.{Media}
 use Rattle.rtp_params.specs.declared.params.Params.{Params}
 use Rattle.rtp_params.specs.declared.mapping.Mapping.{Mapping}
 
@@ -22,6 +23,7 @@ pub record Consumer : Type 0 where
 pub record Producer : Type 0 where
   pub id : Id
   pub transport : Id
+  pub media : Media
   pub params : Params
   pub mapping : Mapping
   pub paused : Bool

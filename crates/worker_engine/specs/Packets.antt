@@ -1,18 +1,22 @@
 -- What becomes of a packet: which Producer takes it, and what each of its Consumers sends on. RFC 3550 has the fields; what is
 -- mapped to what is this project's own, after mediasoup.
-use Rattle.std.specs.Prelude.{ℕ, List, [], ◌∷◌, length, ◌&&◌, ◌==◌, Bool, true, false, not, nat_le, find, is_some, if◌then◌else◌, Option, Some, None, option_map, option_and_then}
+use Rattle.std.specs.Prelude.{ℕ, List, [], ◌∷◌, length, ◌&&◌, ◌==◌, Bool, true, false, not, nat_le, bytes_eq, find, is_some, if◌then◌else◌, Option, Some, None, option_map, option_and_then}
 use Rattle.std.specs.List.{list_any}
 use Rattle.rtp_packet.specs.Fault.{fault_of}
-use Rattle.rtp_packet.specs.Packet.{Fields}
+use Rattle.rtp_packet.specs.Packet.{Fields, packet_of}
 use Rattle.rtp_packet.specs.Reading.{fields_of}
-use Rattle.rtp_packet.specs.Rewriting.{rewritten}
+use Rattle.rtp_packet.specs.Rewriting.{with_fields}
 use Rattle.rtp_extension.specs.declared.mapped.Flags.{Flags}
+use Rattle.rtp_extension.specs.Activity.{is_active as is_active_with}
+use Rattle.rtp_extension.specs.Rewriting.{with_ids}
 use Rattle.ms_base.specs.declared.id.Id.{Id}
 use Rattle.rtp_params.specs.declared.codec.Codec.{Codec}
 use Rattle.rtp_params.specs.declared.encoding.Encoding.{Encoding}
+use Rattle.rtp_params.specs.declared.ext.Ext.{Ext}
 use Rattle.rtp_params.specs.declared.mapping.Mapping.{Mapping}
 use Rattle.rtp_params.specs.declared.params.Params.{Params}
 use Rattle.rtp_params.specs.Names.{is_rtx}
+use Rattle.rtp_params.specs.Table.{sent_exts}
 use Rattle.worker_engine.specs.declared.producer.Taken.{Taken}
 use Rattle.worker_engine.specs.Objects.{Consumer, Producer, Worker, ProducerKey, direct_key, producer_at}
 
@@ -20,12 +24,10 @@ use Rattle.worker_engine.specs.Objects.{Consumer, Producer, Worker, ProducerKey,
 abbrev pub max_packet : ℕ
 max_packet = 65535
 
--- the fields of a packet that is served: it is within the limit and parses. One with a header extension is not served yet.
+-- the fields of a packet that is served: it is within the limit and parses
 unfoldable pub served_fields : List ℕ → Option Fields
 served_fields packet =
-    if nat_le (length packet) max_packet && not (is_some (fault_of packet)) && not (is_some (fields_of packet).extension)
-    then Some (fields_of packet)
-    else None
+    if nat_le (length packet) max_packet && not (is_some (fault_of packet)) then Some (fields_of packet) else None
 
 -- ---- the Producer's side
 
@@ -60,11 +62,43 @@ taken_as ssrc payload_type = None
 abbrev pub taken : Params → Mapping → Fields → Option Taken
 taken params mapping f = taken_as (mapped_ssrc params mapping f.ssrc) (mapped_type params mapping f.payload_type)
 
--- ---- the Consumer's side
+-- ---- ids of elements (RFC 8285)
 
--- A Consumer is active while its transport is connected and neither it nor its Producer is paused.
-abbrev pub is_active_with : Flags → Bool
-is_active_with flags = flags.connected && not flags.paused && not flags.producer_paused
+-- the first extension with this id, and with this uri
+abbrev pub ext_of_id : List Ext → ℕ → Option Ext
+ext_of_id exts id = find (λ e. e.id == id) exts
+
+abbrev pub ext_of_uri : List Ext → List ℕ → Option Ext
+ext_of_uri exts uri = find (λ e. bytes_eq e.uri uri) exts
+
+-- the id among the consumable extensions that the uri of this one has there
+abbrev pub consumable_id : List Ext → Ext → Option ℕ
+consumable_id consumable e = option_map (λ c. c.id) (ext_of_uri consumable e.uri)
+
+-- what the ids of these extensions stand for among the consumable ones
+abbrev pub id_among : List Ext → List Ext → ℕ → Option ℕ
+id_among consumable exts id = option_and_then (consumable_id consumable) (ext_of_id exts id)
+
+-- of the Producer's ids: what is consumable are the supported extensions that are sent for its media
+abbrev pub mapped_id : Producer → ℕ → Option ℕ
+mapped_id p id = id_among (sent_exts p.media) p.params.exts id
+
+-- an extension of the parameters has this id
+abbrev pub has_ext : Params → ℕ → Bool
+has_ext params id = list_any (λ e. e.id == id) params.exts
+
+abbrev pub if_ext : Params → ℕ → Option ℕ
+if_ext params id = if has_ext params id then Some id else None
+
+-- of ids that are mapped so those that the parameters have
+abbrev pub id_within : Params → (ℕ → Option ℕ) → ℕ → Option ℕ
+id_within params ids id = option_and_then (if_ext params) (ids id)
+
+-- the new id under which a Consumer passes an element on, if it does: the mapped one, if its parameters have that
+abbrev pub passed_id : Producer → Consumer → ℕ → Option ℕ
+passed_id p c id = id_within c.params (mapped_id p) id
+
+-- ---- the Consumer's side
 
 -- a direct transport is always connected
 abbrev pub flags_of : Producer → Consumer → Flags
@@ -87,9 +121,14 @@ own_ssrc (m ∷ ms) (e ∷ es) ssrc = if m == ssrc then Some e.ssrc else own_ssr
 abbrev pub passes : Consumer → Taken → Option ℕ
 passes c t = if has_payload_type c.params t.payload_type then own_ssrc c.mapped c.params.encodings t.ssrc else None
 
--- the packet with a Consumer's sequence number and SSRC and the mapped payload type; all else stays
-abbrev pub passed_on : List ℕ → Taken → ℕ → ℕ → List ℕ
-passed_on packet t number ssrc = rewritten packet number ssrc t.payload_type
+-- the fields of a packet with these new ids of elements, a Consumer's sequence number and SSRC and the mapped payload type; all others
+-- stay
+abbrev pub passed_fields : Fields → (ℕ → Option ℕ) → Taken → ℕ → ℕ → Fields
+passed_fields f ids t number ssrc = with_fields (with_ids ids f) number ssrc t.payload_type
+
+-- the packet with these
+abbrev pub passed_on : Fields → (ℕ → Option ℕ) → Taken → ℕ → ℕ → List ℕ
+passed_on f ids t number ssrc = packet_of (passed_fields f ids t number ssrc)
 
 -- the SSRC under which a Consumer passes on a packet of this event, if it does: it is active, and the packet is for it
 abbrev pub passed_by : Producer → Consumer → Taken → Option ℕ

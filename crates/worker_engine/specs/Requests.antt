@@ -9,13 +9,12 @@ use Rattle.ms_base.specs.declared.outcome.WorkerError.{WorkerError}
 use Rattle.ms_base.specs.declared.outcome.WorkerError.TheVariants as error
 use Rattle.channel_msgs.specs.Json.{reply_json}
 use Rattle.channel_msgs.specs.View.{RequestView, ReplyView, AnswerView, accepted, refused}
-use Rattle.channel_msgs.specs.declared.message.Ids.{Ids}
 use Rattle.rtp_params.specs.declared.encoding.Encoding.{Encoding}
 use Rattle.rtp_params.specs.Encodings.{is_own}
 use Rattle.worker_engine.specs.declared.refusal.Refusal.{Refusal}
 use Rattle.worker_engine.specs.declared.refusal.Refusal.TheVariants as refusal
 use Rattle.worker_engine.specs.Contents.{ProduceContent, ConsumeContent, direct_content, produce_content, consume_content}
-use Rattle.worker_engine.specs.Objects.{Consumer, Producer, Router, Worker, ProducerKey, same_id, router_of, has_transport, producer_of, has_consumer}
+use Rattle.worker_engine.specs.Objects.{Consumer, Producer, Router, Worker, same_id, router_of, has_transport, producer_of, has_consumer}
 
 -- ---- the table of methods, and the ids that `internal` names for each
 
@@ -88,7 +87,7 @@ new_router id = record { id = id; transports = []; producers = [] }
 
 abbrev pub new_producer : Id → Id → ProduceContent → Producer
 new_producer transport id c =
-    record { id = id; transport = transport; params = c.params; mapping = c.mapping; paused = c.paused; consumers = [] }
+    record { id = id; transport = transport; media = c.media; params = c.params; mapping = c.mapping; paused = c.paused; consumers = [] }
 
 abbrev pub new_consumer : Id → Id → ConsumeContent → Consumer
 new_consumer transport id c =

@@ -10,7 +10,7 @@ use Rattle.channel_msgs.specs.Read.{request_of}
 use Rattle.channel_msgs.specs.View.{RequestView}
 use Rattle.worker_engine.specs.Objects.{Consumer, Producer, Worker, nothing_yet}
 use Rattle.worker_engine.specs.declared.producer.Taken.{Taken}
-use Rattle.worker_engine.specs.Packets.{passed_by, passed_on, Received, received}
+use Rattle.worker_engine.specs.Packets.{passed_id, passed_by, passed_on, Received, received}
 use Rattle.worker_engine.specs.Requests.{change_router, change_producer, made, with_result, reply_payload}
 
 -- what a worker hears: a payload on its channel, or a datagram that came for a link from a tuple
@@ -87,7 +87,7 @@ after w e = after_heard w (heard_at e)
 -- the payload of a packet that a Consumer passes on
 abbrev pub passed_payload : Received → Consumer → Option (List ℕ)
 passed_payload r c =
-    option_map (λ ssrc. packet_payload c.id (passed_on r.packet r.taken (output_number c.numbering r.fields.seq) ssrc)) (passed_by r.producer c r.taken)
+    option_map (λ ssrc. packet_payload c.id (passed_on r.fields (passed_id r.producer c) r.taken (output_number c.numbering r.fields.seq) ssrc)) (passed_by r.producer c r.taken)
 
 -- one Consumer after the other, in order of making
 abbrev pub passed_payloads : Received → List (List ℕ)

@@ -9,7 +9,7 @@ ghost use Rattle.rtp_params.specs.Mappings.{mapping_of};
 ghost use Rattle.rtp_params.specs.Readable.{Each};
 ghost use Rattle.rtp_params.specs.Reading.{bool_of, required};
 ghost use Rattle.rtp_params.specs.Whole.{params_of};
-ghost use Rattle.worker_engine.specs.Contents.{media_named, media_of, direct_content, produce_in, produce_content, is_simple_named, is_simple_of, consume_in, consume_content, is_served_codec, is_served_encoding, is_served, served_produce, served_consume};
+ghost use Rattle.worker_engine.specs.Contents.{media_named, media_of, direct_content, produce_in, produce_content, is_simple_named, is_simple_of, consume_in, consume_content, has_encodings, is_matched, valid_produce, valid_consume, is_audio_media, are_audio, is_audio, served_produce, served_consume};
 
 use ms_base::{Code, Media, NoMemory};
 use rtp_params::{
@@ -91,7 +91,7 @@ pub(crate) fn produce_content(
         return Ok(None);
     };
     match read_produce(alloc, members) {
-        Ok(content) => Ok(served_produce(content)),
+        Ok(content) => Ok(valid_produce(content).and_then(served_produce)),
         Err(ParamFault::TypeError { .. }) => Ok(None),
         Err(ParamFault::NoMemory) => Err(NoMemory),
     }
@@ -108,7 +108,7 @@ pub(crate) fn consume_content(
         return Ok(None);
     };
     match read_consume(alloc, members) {
-        Ok(content) => Ok(served_consume(content)),
+        Ok(content) => Ok(valid_consume(content).and_then(served_consume)),
         Err(ParamFault::TypeError { .. }) => Ok(None),
         Err(ParamFault::NoMemory) => Err(NoMemory),
     }
@@ -121,56 +121,87 @@ fn object_in(content: Option<&Value>) -> Option<&Members>
     content?.as_object()
 }
 
-// ---- what is served today
+// ---- what a content must have besides the form of its members
 
-fn is_served_codec(codecs: &[Codec]) -> bool
-    ensures { result ≡ is_served_codec codecs.now }
+fn has_encodings(params: &Params) -> bool
+    ensures { result ≡ has_encodings params.now }
 {
-    match codecs {
-        [codec] => matches!(codec.media, Media::Audio) && !codec.is_rtx(),
-        _ => false,
-    }
+    params.encodings.len() > 0
 }
 
-fn is_served_encoding(encodings: &[Encoding]) -> bool
-    ensures { result ≡ is_served_encoding encodings.now }
+// Whether there is a consumable encoding for each of its own, and one alone where it is simple.
+fn is_matched(simple: bool, consumable: &[Encoding], encodings: &[Encoding]) -> bool
+    ensures { result ≡ is_matched simple consumable.now encodings.now }
 {
-    match encodings {
-        [encoding] => encoding.rtx.is_none(),
-        _ => false,
-    }
+    consumable.len() == encodings.len() && (!simple || encodings.len() == 1)
 }
 
-// One stream of audio, of one codec, without header extensions and retransmission.
-#[tactic(auto, unfolding(crate::specs::Contents::is_served))]
-fn is_served(params: &Params) -> bool
-    ensures { result ≡ is_served params.now }
-{
-    is_served_codec(params.codecs.as_slice())
-        && is_served_encoding(params.encodings.as_slice())
-        && params.exts.len() == 0
-}
-
-// The content, where it is served.
-fn served_produce(content: ProduceContent) -> Option<ProduceContent>
-    ensures value { result ≡ served_produce content }
+// The content, where it has an encoding.
+fn valid_produce(content: ProduceContent) -> Option<ProduceContent>
+    ensures value { result ≡ valid_produce content }
     ensures same { IfSome result (λ c. c ≡ content) }
 {
-    if is_served(&content.params) {
+    if has_encodings(&content.params) {
         Some(content)
     } else {
         None
     }
 }
 
-// The content, where it is served: with as many encodings as the Producer has, and one of them.
+// The content, where it has an encoding, and as many as it consumes.
+fn valid_consume(content: ConsumeContent) -> Option<ConsumeContent>
+    ensures { result ≡ valid_consume content }
+{
+    let encodings = content.params.encodings.as_slice();
+    if has_encodings(&content.params)
+        && is_matched(content.simple, content.consumable.as_slice(), encodings)
+    {
+        Some(content)
+    } else {
+        None
+    }
+}
+
+// ---- what is served today
+
+fn is_audio_media(media: Media) -> bool
+    ensures { result ≡ is_audio_media media }
+{
+    matches!(media, Media::Audio)
+}
+
+fn are_audio(codecs: &[Codec]) -> bool
+    ensures { result ≡ are_audio codecs.now }
+{
+    codecs.iter().all(|codec| is_audio_media(codec.media))
+}
+
+// Whether this is named audio, and has no codec of video.
+fn is_audio(media: Media, codecs: &[Codec]) -> bool
+    ensures { result ≡ is_audio media codecs.now }
+{
+    is_audio_media(media) && are_audio(codecs)
+}
+
+// The content, where it is served: audio of one stream.
+fn served_produce(content: ProduceContent) -> Option<ProduceContent>
+    ensures value { result ≡ served_produce content }
+    ensures same { IfSome result (λ c. c ≡ content) }
+{
+    if is_audio(content.media, content.params.codecs.as_slice())
+        && content.params.encodings.len() == 1
+    {
+        Some(content)
+    } else {
+        None
+    }
+}
+
+// The content, where it is served: audio, and no pipe.
 fn served_consume(content: ConsumeContent) -> Option<ConsumeContent>
     ensures { result ≡ served_consume content }
 {
-    if is_served(&content.params)
-        && is_served_encoding(content.consumable.as_slice())
-        && content.simple
-    {
+    if is_audio(content.media, content.params.codecs.as_slice()) && content.simple {
         Some(content)
     } else {
         None

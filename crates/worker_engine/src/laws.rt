@@ -1,8 +1,11 @@
 //! What holds of every list of events.
 
-ghost use Rattle.worker_engine.specs.Laws.{NumberingIsOfTheStretches, SaidIsTheOutput, EmitsAreNumberedByStretches, EmittedIsTheReceived, EmitsExactlyWhatItPasses, EmitsOnlyWhatIsReceived};
+ghost use Rattle.worker_engine.specs.Laws.{NumberingIsOfTheStretches, SaidIsTheOutput, EmitsAreNumberedByStretches, ReceivedIsAPacket, EmittedIsTheReceived, EmittedElements, EmittedIsNoLonger, EmitsExactlyWhatItPasses, EmitsOnlyWhatIsReceived};
 ghost use Rattle.worker_engine.specs.Lower.{LowerLaws};
 
+use rtp_extension::{
+    rewritten_elements, rewritten_is_a_packet as renamed_is_a_packet, rewritten_is_no_longer,
+};
 use rtp_packet::{fields_by_places, grammar, rewritten_is_a_packet};
 use rtp_params::what_is_read_fits;
 use seq_manager::{answers_are_the_numbers_of_the_stretches, calls_go_on_from_the_state};
@@ -28,10 +31,14 @@ pub fn emits_are_numbered_by_stretches()
     lower_laws();
 }
 
-/// An emitted packet is a packet: the received one with its number, the Consumer's SSRC and the mapped payload
-/// type.
+/// An emitted packet is a packet, no longer than the received one: that one with its number, the Consumer's
+/// SSRC, the mapped payload type, and of its elements those whose mapped ids the Consumer's parameters have,
+/// under these.
 pub fn emitted_is_the_received()
-    ensures { EmittedIsTheReceived }
+    ensures received { ReceivedIsAPacket }
+    ensures packet { EmittedIsTheReceived }
+    ensures elements { EmittedElements }
+    ensures no_longer { EmittedIsNoLonger }
 {
     lower_laws();
 }
@@ -51,6 +58,9 @@ fn lower_laws()
     grammar();
     fields_by_places();
     rewritten_is_a_packet();
+    renamed_is_a_packet();
+    rewritten_elements();
+    rewritten_is_no_longer();
     answers_are_the_numbers_of_the_stretches();
     calls_go_on_from_the_state();
 }

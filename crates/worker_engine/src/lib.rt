@@ -10,6 +10,7 @@ mod directs;
 mod engine;
 mod fault;
 mod forward;
+mod incoming;
 mod laws;
 mod producer;
 mod producers;

@@ -2,21 +2,23 @@
 
 ghost use Rattle.std.specs.Prelude.{◌≡◌, ℕ, ◌+◌, ◌≤◌, length, vec_len, IfOk, IfSome, OnOk, OnErr};
 ghost use Rattle.ms_devices.specs.Causes.{HasCause};
-ghost use Rattle.rtp_packet.specs.Fault.{Parses};
-ghost use Rattle.rtp_packet.specs.Reading.{fields_of};
+ghost use Rattle.rtp_extension.specs.Ids.{new_id};
 ghost use Rattle.rtp_params.specs.Encodings.{is_own};
-ghost use Rattle.worker_engine.specs.Packets.{max_packet, mapped_to, is_media_type, is_media_ssrc, mapped_type, mapped_ssrc, taken};
+ghost use Rattle.rtp_params.specs.Readable.{Each};
+ghost use Rattle.worker_engine.specs.Packets.{mapped_to, ext_of_id, ext_of_uri, consumable_id, id_among, is_media_type, is_media_ssrc, mapped_type, mapped_ssrc, taken};
 ghost use Rattle.worker_engine.specs.PacketTables.{is_media_codec, AreTypes, AreMappedTypes, AreMappedSsrcs};
 ghost use Rattle.worker_engine.specs.Requests.{new_producer, with_consumer};
-ghost use Rattle.worker_engine.specs.Forwarding.{Made, calls_of, forwarded, forwarded_payloads, outline_of, IsForwardedInPart, StopsAtAFault};
+ghost use Rattle.worker_engine.specs.Forwarding.{Made, calls_of, forwarded, forwarded_payloads, outline_of, IsServed, IsForwardedInPart, StopsAtAFault};
 
 use crate::consumer::Consumer;
 use crate::content::ProduceContent;
 use crate::forward::{FRAME_HEAD, forward};
-use ms_base::{Id, NoMemory};
+use crate::incoming::Incoming;
+use ms_base::{Id, Media, NoMemory};
 use ms_devices::{Failed, Outbox};
+use rtp_extension::IdMap;
 use rtp_packet::View;
-use rtp_params::{Codec, Encoding, Mapping, Params};
+use rtp_params::{Codec, Encoding, Ext, Mapping, Params, table_exts};
 use std::alloc::Global;
 use std::marker::Model;
 
@@ -38,6 +40,7 @@ pub struct Taken {
 pub(crate) struct Producer {
     id: Id,
     transport: Id,
+    media: Media,
     params: Params,
     mapping: Mapping,
     paused: bool,
@@ -46,6 +49,8 @@ pub(crate) struct Producer {
     types: [Option<u8>; TYPES],
     // Each SSRC of media with the one that it is mapped to.
     ssrcs: Vec<(u32, u32)>,
+    // For each id of elements the table's.
+    ids: IdMap,
 }
 
 impl Model for Producer {
@@ -58,13 +63,14 @@ impl Model for Producer {
     ghost view = { λ p. record {
       id = p.id;
       transport = p.transport;
+      media = p.media;
       params = p.params;
       mapping = p.mapping;
       paused = p.paused;
       consumers = p.consumers.items;
     } };
 
-    ghost invariant = { λ p. IsProducer p.params p.mapping p.types p.ssrcs.items };
+    ghost invariant = { λ p. IsProducer p.media p.params p.mapping p.types p.ssrcs.items p.ids };
 }
 
 impl Producer {
@@ -79,22 +85,26 @@ impl Producer {
         ensures { IfOk result (λ p. p ≡ new_producer transport id content) }
     {
         let ProduceContent {
-            media: _,
+            media,
             paused,
             mapping,
             params,
         } = content;
         let types = mapped_types(&params, &mapping);
         let ssrcs = mapped_ssrcs(alloc, &params, &mapping)?;
+        let consumable = table_exts(alloc, media)?;
+        let ids = mapped_ids(consumable.as_slice(), params.exts.as_slice());
         Ok(Producer {
             id,
             transport,
+            media,
             params,
             mapping,
             paused,
             consumers: Vec::new(alloc),
             types,
             ssrcs,
+            ids,
         })
     }
 
@@ -155,14 +165,12 @@ impl Producer {
         buffer: &mut [u8],
         outbox: &mut O,
     ) -> Result<(), Failed>
-        requires parses { Parses packet.now }
-        requires view { view.now ≡ fields_of packet.now }
-        requires limit { length packet.now ≤ max_packet }
+        requires served { IsServed packet.now view.now }
         requires room { FRAME_HEAD + length packet.now ≤ length buffer.old }
-        ensures ok { OnOk result (self.new ≡ forwarded packet.now self.old) }
-        ensures calls { OnOk result (Made (calls_of (forwarded_payloads packet.now self.old)) (O.calls outbox.old) (O.calls outbox.new)) }
-        ensures err { OnErr result (IsForwardedInPart packet.now self.old self.new (O.calls outbox.old) (O.calls outbox.new)) }
-        ensures fault { OnErr result (StopsAtAFault (forwarded_payloads packet.now self.old) (O.calls outbox.old) (O.calls outbox.new)) }
+        ensures ok { OnOk result (self.new ≡ forwarded view.now self.old) }
+        ensures calls { OnOk result (Made (calls_of (forwarded_payloads view.now self.old)) (O.calls outbox.old) (O.calls outbox.new)) }
+        ensures err { OnErr result (IsForwardedInPart view.now self.old self.new (O.calls outbox.old) (O.calls outbox.new)) }
+        ensures fault { OnErr result (StopsAtAFault (forwarded_payloads view.now self.old) (O.calls outbox.old) (O.calls outbox.new)) }
         ensures outline { outline_of self.new ≡ outline_of self.old }
         ensures cause { HasCause (O.channel_faults outbox.old) (O.channel_faults outbox.new) result }
         ensures links { O.link_faults outbox.new ≡ O.link_faults outbox.old }
@@ -170,14 +178,14 @@ impl Producer {
         let Some(taken) = self.receive(view) else {
             return Ok(());
         };
-        match forward(
-            &mut self.consumers,
-            self.paused,
-            taken,
+        let incoming = Incoming {
             packet,
-            buffer,
-            outbox,
-        ) {
+            view,
+            taken,
+            ids: &self.ids,
+            producer_paused: self.paused,
+        };
+        match forward(&mut self.consumers, &incoming, buffer, outbox) {
             Ok(()) => Ok(()),
             Err(_) => Err(Failed),
         }
@@ -251,4 +259,30 @@ fn mapped_ssrcs(
         }
     }
     Ok(ssrcs)
+}
+
+// The id that the uri of an extension has among the consumable ones.
+fn consumable_id(consumable: &[Ext], ext: &Ext) -> Option<u8>
+    ensures { result ≡ consumable_id consumable.now ext.now }
+{
+    consumable
+        .iter()
+        .find(|other| other.uri.as_str() == ext.uri.as_str())
+        .map(|other| other.id)
+}
+
+// The map of ids. It is made from the last extension on, so that of each id the first counts.
+fn mapped_ids(consumable: &[Ext], exts: &[Ext]) -> IdMap
+    requires { Each (λ e. 1 ≤ e.id) consumable.now }
+    ensures { (id : ℕ) → new_id result id ≡ id_among consumable.now exts.now id }
+{
+    let mut ids = IdMap::new();
+    for at in (0..exts.len()).rev() {
+        let ext = &exts[at];
+        match consumable_id(consumable, ext) {
+            Some(new) => ids.set(ext.id, new),
+            None => ids.clear(ext.id),
+        }
+    }
+    ids
 }

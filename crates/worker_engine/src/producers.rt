@@ -3,11 +3,8 @@
 ghost use Rattle.std.specs.Prelude.{◌≡◌, ◌≤◌, ◌+◌, length, ◌∷◌, ◌++◌, [], ℕ, find, is_some, not, true, false, bytes_eq, map, OnOk, OnErr, IsSome, option_copied, if◌then◌else◌};
 ghost use Rattle.std.specs.HashMap.{values};
 ghost use Rattle.ms_devices.specs.Causes.{HasCause};
-ghost use Rattle.rtp_packet.specs.Fault.{Parses};
-ghost use Rattle.rtp_packet.specs.Reading.{fields_of};
-ghost use Rattle.worker_engine.specs.Forwarding.{Made, calls_of, forwarded_in, payloads_in, outline_of, StopsAtAFault};
+ghost use Rattle.worker_engine.specs.Forwarding.{Made, calls_of, forwarded_in, payloads_in, outline_of, IsServed, StopsAtAFault};
 ghost use Rattle.worker_engine.specs.Objects.{same_id};
-ghost use Rattle.worker_engine.specs.Packets.{max_packet};
 ghost use Rattle.worker_engine.specs.Requests.{change_producer, with_consumer};
 
 use crate::consumer::Consumer;
@@ -87,14 +84,12 @@ impl Producers {
         buffer: &mut [u8],
         outbox: &mut O,
     ) -> Result<(), Failed>
-        requires parses { Parses packet.now }
-        requires view { view.now ≡ fields_of packet.now }
-        requires limit { length packet.now ≤ max_packet }
+        requires served { IsServed packet.now view.now }
         requires room { FRAME_HEAD + length packet.now ≤ length buffer.old }
-        ensures ok { OnOk result (self.new ≡ forwarded_in packet.now id self.old) }
+        ensures ok { OnOk result (self.new ≡ forwarded_in view.now id self.old) }
         ensures outlines { map outline_of self.new ≡ map outline_of self.old }
-        ensures calls { OnOk result (Made (calls_of (payloads_in packet.now id self.old)) (O.calls outbox.old) (O.calls outbox.new)) }
-        ensures err { OnErr result (StopsAtAFault (payloads_in packet.now id self.old) (O.calls outbox.old) (O.calls outbox.new)) }
+        ensures calls { OnOk result (Made (calls_of (payloads_in view.now id self.old)) (O.calls outbox.old) (O.calls outbox.new)) }
+        ensures err { OnErr result (StopsAtAFault (payloads_in view.now id self.old) (O.calls outbox.old) (O.calls outbox.new)) }
         ensures cause { HasCause (O.channel_faults outbox.old) (O.channel_faults outbox.new) result }
         ensures links { O.link_faults outbox.new ≡ O.link_faults outbox.old }
     {

@@ -7,10 +7,7 @@ ghost use Rattle.ms_base.specs.declared.id.Id.{Id};
 ghost use Rattle.rtp_params.specs.Encodings.{is_own};
 ghost use Rattle.rtp_params.specs.Readable.{Each};
 ghost use Rattle.ms_devices.specs.Causes.{HasCause};
-ghost use Rattle.rtp_packet.specs.Fault.{Parses};
-ghost use Rattle.rtp_packet.specs.Reading.{fields_of};
-ghost use Rattle.worker_engine.specs.Forwarding.{Made, calls_of, forwarded_in, payloads_in, StopsAtAFault};
-ghost use Rattle.worker_engine.specs.Packets.{max_packet};
+ghost use Rattle.worker_engine.specs.Forwarding.{Made, calls_of, forwarded_in, payloads_in, IsServed, StopsAtAFault};
 ghost use Rattle.worker_engine.specs.Objects.{same_id, has_transport, producer_of};
 ghost use Rattle.worker_engine.specs.Requests.{clashes, has_producer, new_router, new_producer, new_consumer, with_transport, with_producer, change_producer, with_consumer};
 ghost use Rattle.worker_engine.specs.Tables.{same_place, checked, has_object, transport_fault, producer_fault, consumer_fault, Faults};
@@ -215,14 +212,12 @@ impl Router {
         buffer: &mut [u8],
         outbox: &mut O,
     ) -> Result<(), Failed>
-        requires parses { Parses packet.now }
-        requires view { view.now ≡ fields_of packet.now }
-        requires limit { length packet.now ≤ max_packet }
+        requires served { IsServed packet.now view.now }
         requires room { FRAME_HEAD + length packet.now ≤ length buffer.old }
-        ensures ok { OnOk result (self.new ≡ record self.old { producers = forwarded_in packet.now id self.old.producers }) }
+        ensures ok { OnOk result (self.new ≡ record self.old { producers = forwarded_in view.now id self.old.producers }) }
         ensures id { self.new.id ≡ self.old.id }
-        ensures calls { OnOk result (Made (calls_of (payloads_in packet.now id self.old.producers)) (O.calls outbox.old) (O.calls outbox.new)) }
-        ensures err { OnErr result (StopsAtAFault (payloads_in packet.now id self.old.producers) (O.calls outbox.old) (O.calls outbox.new)) }
+        ensures calls { OnOk result (Made (calls_of (payloads_in view.now id self.old.producers)) (O.calls outbox.old) (O.calls outbox.new)) }
+        ensures err { OnErr result (StopsAtAFault (payloads_in view.now id self.old.producers) (O.calls outbox.old) (O.calls outbox.new)) }
         ensures cause { HasCause (O.channel_faults outbox.old) (O.channel_faults outbox.new) result }
         ensures links { O.link_faults outbox.new ≡ O.link_faults outbox.old }
     {

@@ -3,11 +3,8 @@
 ghost use Rattle.std.specs.Prelude.{◌≡◌, ◌+◌, length, ◌≤◌, ◌∷◌, ◌++◌, [], find, is_some, false, OnOk, OnErr, option_copied};
 ghost use Rattle.rtp_params.specs.Readable.{Each};
 ghost use Rattle.ms_devices.specs.Causes.{HasCause};
-ghost use Rattle.rtp_packet.specs.Fault.{Parses};
-ghost use Rattle.rtp_packet.specs.Reading.{fields_of};
-ghost use Rattle.worker_engine.specs.Forwarding.{Made, calls_of, forwarded_at, payloads_at, StopsAtAFault};
+ghost use Rattle.worker_engine.specs.Forwarding.{Made, calls_of, forwarded_at, payloads_at, IsServed, StopsAtAFault};
 ghost use Rattle.worker_engine.specs.Objects.{same_id};
-ghost use Rattle.worker_engine.specs.Packets.{max_packet};
 ghost use Rattle.worker_engine.specs.Requests.{new_router, new_producer, new_consumer, with_transport, with_producer, with_consumer, change_router, change_producer};
 ghost use Rattle.worker_engine.specs.Tables.{transport_fault, producer_fault, consumer_fault, Faults, fault_in};
 
@@ -136,13 +133,11 @@ impl Routers {
         buffer: &mut [u8],
         outbox: &mut O,
     ) -> Result<(), Failed>
-        requires parses { Parses packet.now }
-        requires view { view.now ≡ fields_of packet.now }
-        requires limit { length packet.now ≤ max_packet }
+        requires served { IsServed packet.now view.now }
         requires room { FRAME_HEAD + length packet.now ≤ length buffer.old }
-        ensures ok { OnOk result (self.new ≡ forwarded_at packet.now (record { router = router; producer = producer }) self.old) }
-        ensures calls { OnOk result (Made (calls_of (payloads_at packet.now (record { router = router; producer = producer }) self.old)) (O.calls outbox.old) (O.calls outbox.new)) }
-        ensures err { OnErr result (StopsAtAFault (payloads_at packet.now (record { router = router; producer = producer }) self.old) (O.calls outbox.old) (O.calls outbox.new)) }
+        ensures ok { OnOk result (self.new ≡ forwarded_at view.now (record { router = router; producer = producer }) self.old) }
+        ensures calls { OnOk result (Made (calls_of (payloads_at view.now (record { router = router; producer = producer }) self.old)) (O.calls outbox.old) (O.calls outbox.new)) }
+        ensures err { OnErr result (StopsAtAFault (payloads_at view.now (record { router = router; producer = producer }) self.old) (O.calls outbox.old) (O.calls outbox.new)) }
         ensures cause { HasCause (O.channel_faults outbox.old) (O.channel_faults outbox.new) result }
         ensures links { O.link_faults outbox.new ≡ O.link_faults outbox.old }
     {

@@ -7,6 +7,9 @@ returns c = record {
   grammar = c.grammar.ensures;
   fields = c.fields_by_places.ensures;
   is_rewritten = c.rewritten_is_a_packet.ensures;
+  renamed = c.rewritten_is_a_packet-2.ensures;
+  elements = c.rewritten_elements.ensures;
+  no_longer = c.rewritten_is_no_longer.ensures;
   answered = c.answers_are_the_numbers_of_the_stretches.ensures;
   going = c.calls_go_on_from_the_state.ensures;
 }

@@ -1,4 +1,5 @@
-use Rattle.std.proofs.Common.{◌≡◌, ℕ, List, [], Some, None, OnOk, OnErr, sym, subst, ap, ◌∙◌}
+use Rattle.std.proofs.Common.{◌≡◌, ℕ, List, Some, None, OnOk, OnErr, sym, subst, ap, ◌∙◌}
+use Rattle.rtp_packet.specs.Packet.{Fields}
 use Rattle.rtp_packet.specs.Reading.{fields_of}
 use Rattle.worker_engine.specs.Objects.{Worker, ProducerKey, Router, direct_key}
 use Rattle.worker_engine.specs.Packets.{served_fields, received}
@@ -43,10 +44,11 @@ returns-clause-ok g c =
     let earliest : direct_key w c.in-Direct.id ≡ Some key =
     sym (ap (λ (v : Worker). direct_key v c.in-Direct.id) c.self.view_is) ∙ (sym c.in-Some.ensures ∙ ap Some (sym c.key.view_is)) in
     let served : served_fields packet ≡ Some (fields_of packet) = sym c.in-Some-served.ensures.fields ∙ ap Some c.in-Some-served.ensures.view in
-    on-ok-map (c.forward.new.self ≡ forwarded_at packet key c.self.inside.routers) _ c.forward.result
-    (λ (e : c.forward.new.self ≡ forwarded_at packet key c.self.inside.routers).
-    ap (λ (rs : List Router). record { routers = rs; directs = c.self.inside.directs.keys }) e
-    ∙ (ap (λ (v : Worker). record v { routers = forwarded_at packet key v.routers }) c.self.view_is
+    on-ok-map (c.forward.new.self ≡ forwarded_at c.in-Some-served.view key c.self.inside.routers) _ c.forward.result
+    (λ (e : c.forward.new.self ≡ forwarded_at c.in-Some-served.view key c.self.inside.routers).
+    ap (λ (rs : List Router). record { routers = rs; directs = c.self.inside.directs.keys })
+    (e ∙ ap (λ (f : Fields). forwarded_at f key c.self.inside.routers) c.in-Some-served.ensures.view)
+    ∙ (ap (λ (v : Worker). record v { routers = forwarded_at (fields_of packet) key v.routers }) c.self.view_is
     ∙ (sym (worker-forwarded w c.in-Direct.id packet key earliest served) ∙ sym (ap (λ f. after_heard w (heard_from f packet)) c.in-Direct.is))))
     c.forward.ensures.ok
 
@@ -59,8 +61,9 @@ returns-clause-told g c =
     sym (ap (λ (v : Worker). direct_key v c.in-Direct.id) c.self.view_is) ∙ (sym c.in-Some.ensures ∙ ap Some (sym c.key.view_is)) in
     let served : served_fields packet ≡ Some (fields_of packet) = sym c.in-Some-served.ensures.fields ∙ ap Some c.in-Some-served.ensures.view in
     subst (λ (ps : List (List ℕ)). OnOk c.forward.result (Made (calls_of ps) (g.O.Outbox.calls c.args.outbox.now) (g.O.Outbox.calls c.forward.new.outbox)))
-    (ap (λ (v : Worker). payloads_at packet key v.routers) c.self.view_is
-    ∙ (sym (worker-payloads w c.in-Direct.id packet key earliest served) ∙ sym (ap (λ f. said_of w (heard_from f packet)) c.in-Direct.is)))
+    (ap (λ (f : Fields). payloads_at f key c.self.inside.routers) c.in-Some-served.ensures.view
+    ∙ (ap (λ (v : Worker). payloads_at (fields_of packet) key v.routers) c.self.view_is
+    ∙ (sym (worker-payloads w c.in-Direct.id packet key earliest served) ∙ sym (ap (λ f. said_of w (heard_from f packet)) c.in-Direct.is))))
     c.forward.ensures.calls
 
 pub returns-clause-err : goal.returns-clause-err
@@ -72,6 +75,7 @@ returns-clause-err g c =
     sym (ap (λ (v : Worker). direct_key v c.in-Direct.id) c.self.view_is) ∙ (sym c.in-Some.ensures ∙ ap Some (sym c.key.view_is)) in
     let served : served_fields packet ≡ Some (fields_of packet) = sym c.in-Some-served.ensures.fields ∙ ap Some c.in-Some-served.ensures.view in
     subst (λ (ps : List (List ℕ)). OnErr c.forward.result (StopsAtAFault ps (g.O.Outbox.calls c.args.outbox.now) (g.O.Outbox.calls c.forward.new.outbox)))
-    (ap (λ (v : Worker). payloads_at packet key v.routers) c.self.view_is
-    ∙ (sym (worker-payloads w c.in-Direct.id packet key earliest served) ∙ sym (ap (λ f. said_of w (heard_from f packet)) c.in-Direct.is)))
+    (ap (λ (f : Fields). payloads_at f key c.self.inside.routers) c.in-Some-served.ensures.view
+    ∙ (ap (λ (v : Worker). payloads_at (fields_of packet) key v.routers) c.self.view_is
+    ∙ (sym (worker-payloads w c.in-Direct.id packet key earliest served) ∙ sym (ap (λ f. said_of w (heard_from f packet)) c.in-Direct.is))))
     c.forward.ensures.err
