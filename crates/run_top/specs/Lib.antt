@@ -1,10 +1,7 @@
 pub mod Answers
 pub mod Applying
 pub mod Command
-pub mod Hearing
 pub mod Reading
 pub mod Replay
-pub mod Sending
-pub mod ServeEnds
-pub mod Serving
 pub mod StatusRows
+pub mod Worker

@@ -3,12 +3,8 @@
 
 mod apply;
 mod command;
-mod fault;
 mod read;
 mod replay;
-mod say;
-mod serve;
-mod server;
 mod status;
 mod top;
 mod worker;

@@ -1,10 +1,8 @@
-use crate::{Status, media_top, replay_top, worker_top};
+use crate::{Status, media_top, replay_top};
 use host_core::Host;
 use journal_text::read_journal;
-use ms_base::{Bytes, CallKey, Code, Entry, Name, Op, SlotLook, Text, Verdict, WorkerKey};
-use ms_devices::{
-    Inbox, MemEvent, MemInbox, MemOutbox, MemSink, MemSource, OutCall, Outbox, Sink, Source,
-};
+use ms_base::{CallKey, Code, Entry, Name, Op, SlotLook, Text, Verdict, WorkerKey};
+use ms_devices::{MemInbox, MemOutbox, MemSink, MemSource, Sink, Source};
 use std::alloc::Global;
 use std::test::Fail;
 
@@ -273,54 +271,5 @@ fn has_no_slot_for_a_65th_worker(rt: HostRuntime) -> Result<(), Fail> {
     let refused = Verdict::TypeError { code: Code::Slots };
     assert_eq!(rt; shown(&host, 64, 64), (None, SlotLook::Want(1)));
     assert_eq!(rt; shown(&host, 65, 65), (Some(refused), SlotLook::Idle));
-    Ok(())
-}
-
-// The frame by which a worker says that it runs.
-const RUNNING: &[u8] = b"\x27\0\0\0{\"event\":\"running\",\"targetId\":\"worker\"}";
-
-// How a worker ends over these bytes of its channel, and the frames that it sends.
-fn served(
-    alloc: Global,
-    bytes: &[u8],
-    reads: &[u32],
-    writes: &[u32],
-) -> Result<(Status, Vec<u8>), Fail> {
-    let mut events = Vec::new(alloc);
-    events.push(MemEvent::Channel(Bytes::from_slice(alloc, bytes)?))?;
-    let mut inbox = MemInbox::new(alloc, events, Vec::from_slice(alloc, reads)?)?;
-    let mut outbox = MemOutbox::new(alloc, Vec::new(alloc), Vec::from_slice(alloc, writes)?)?;
-    let status = serve_over(alloc, &mut inbox, &mut outbox);
-    let mut sent = Vec::new(alloc);
-    for call in outbox.told().unwrap_or(&[]) {
-        if let OutCall::Channel {
-            frame,
-            failed: false,
-        } = call
-        {
-            sent.extend_from_slice(frame.as_slice())?;
-        }
-    }
-    Ok((status, sent))
-}
-
-// Through the bounds alone.
-fn serve_over<I: Inbox, O: Outbox>(alloc: Global, inbox: &mut I, outbox: &mut O) -> Status {
-    worker_top(alloc, inbox, outbox)
-}
-
-#[test]
-fn says_that_it_runs_and_ends_by_its_channel(rt: HostRuntime) -> Result<(), Fail> {
-    let table: [(&[u8], &[u32], &[u32], Status, &[u8]); 4] = [
-        (b"", &[], &[], Status::DONE, RUNNING),
-        (b"\x01\0\x40\0", &[], &[], Status::BAD_TEXT, RUNNING),
-        (b"", &[1], &[], Status::READ_FAILED, RUNNING),
-        (b"", &[], &[1], Status::WRITE_FAILED, b""),
-    ];
-    for (bytes, reads, writes, status, frames) in table {
-        let (ended, sent) = served(rt.alloc(), bytes, reads, writes)?;
-        assert_eq!(rt; ended, status, "{bytes:?}");
-        assert_eq!(rt; sent.as_slice(), frames, "{bytes:?}");
-    }
     Ok(())
 }

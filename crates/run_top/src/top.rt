@@ -1,7 +1,7 @@
 ghost use Rattle.std.specs.Prelude.{◌≡◌, ◌↔◌, None, Some};
 ghost use Rattle.run_top.specs.Command.{command_of};
 ghost use Rattle.run_top.specs.Replay.{IsReplay};
-ghost use Rattle.run_top.specs.Serving.{IsWorker};
+ghost use Rattle.run_top.specs.Worker.{IsWorker};
 ghost use Rattle.run_top.specs.declared.command.Command.TheVariants.{Replay, Worker};
 
 use crate::command::{Command, command_of};

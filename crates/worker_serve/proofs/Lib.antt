@@ -1,0 +1,4 @@
+pub mod HearingLemmas
+pub mod SayLemmas
+pub mod SendingLemmas
+pub mod ServeLemmas

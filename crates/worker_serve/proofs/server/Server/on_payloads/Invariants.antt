@@ -1,0 +1,23 @@
+use Rattle.std.proofs.Common.{◌≡◌, length, map}
+use Rattle.channel_frames.specs.Frames.{frames}
+use Rattle.channel_frames.specs.Reading.{drained}
+use Rattle.ms_devices.specs.Told.{Tells}
+use Rattle.worker_engine.specs.Run.{after_all, payload}
+use Rattle.worker_serve.specs.Sending.{AddsBy, calls_from}
+use Rattle.worker_serve.proofs.SendingLemmas.{Before}
+use Rattle.worker_serve.proofs.server.Server.on_payloads.Given as goal
+
+-- the payloads so far are served: with those that are left comes what all of them come to
+abbrev pub invariant-loop-payload : goal.invariant-loop-payload
+invariant-loop-payload g l = record {
+  state : after_all l.self.engine (map payload (frames l.self.reader.unread)) ≡ after_all l.initial.self.engine (map payload (frames l.initial.self.reader.unread));
+  sent :
+      Tells (AddsBy (Before (calls_from l.initial.self.engine (map payload (frames l.initial.self.reader.unread))) (calls_from l.self.engine (map payload (frames l.self.reader.unread)))))
+      (g.O.Outbox.calls l.initial.outbox) (g.O.Outbox.calls l.outbox);
+  drained : drained l.self.reader ≡ drained l.initial.self.reader;
+  counts : g.O.Outbox.channel_faults l.outbox ≡ g.O.Outbox.channel_faults l.initial.outbox;
+  links : g.O.Outbox.link_faults l.outbox ≡ g.O.Outbox.link_faults l.initial.outbox;
+}
+
+abbrev pub decreases-loop-payload : goal.decreases-loop-payload
+decreases-loop-payload g l = length (frames l.self.reader.unread)

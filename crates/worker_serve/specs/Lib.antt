@@ -1,0 +1,4 @@
+pub mod Serving
+pub mod Hearing
+pub mod Sending
+pub mod ServeEnds
