@@ -5,13 +5,8 @@ ghost use Rattle.std.specs.Prelude.{◌≡◌, ◌↔◌, ◌⊎◌, IfOk, drop,
 ghost use Rattle.std.specs.Process.{exit_status};
 ghost use Rattle.std.specs.Vec.Iter.{into_iter_items};
 
-mod input;
-mod output;
-
-use crate::input::Input;
-use crate::output::Output;
 use ms_base::Text;
-use ms_devices::{MemInbox, MemOutbox};
+use real_edges::{RealSink, RealSource, open_worker};
 use run_top::{Status, media_top};
 use std::alloc::{AllocError, Global};
 use std::env::Args;
@@ -26,24 +21,22 @@ fn main(rt: HostRuntime) -> ExitCode {
     let Ok(words) = command_words(rt.alloc(), args) else {
         return exit_code(Status::OUT_OF_MEMORY);
     };
-    let mut source = Input::new(rt.stdin());
-    let mut sink = Output::new(rt.stdout());
-    // In memory, with nothing in them: there are no real ones yet.
-    let alloc = rt.alloc();
-    let Ok(mut inbox) = MemInbox::new(alloc, Vec::new(alloc), Vec::new(alloc)) else {
+    let mut source = RealSource::new(rt.stdin());
+    let mut sink = RealSink::new(rt.stdout());
+    // Standard input isn't read by it before a worker asks for its first event.
+    let Ok(mut edges) = open_worker(rt, rt.alloc(), rt.stdin(), rt.stdout()) else {
         return exit_code(Status::OUT_OF_MEMORY);
     };
-    let Ok(mut outbox) = MemOutbox::new(alloc, Vec::new(alloc), Vec::new(alloc)) else {
-        return exit_code(Status::OUT_OF_MEMORY);
-    };
-    exit_code(media_top(
-        alloc,
+    let status = media_top(
+        rt.alloc(),
         words.as_slice(),
         &mut source,
         &mut sink,
-        &mut inbox,
-        &mut outbox,
-    ))
+        &mut edges.inbox,
+        &mut edges.outbox,
+    );
+    edges.close();
+    exit_code(status)
 }
 
 // The exit code of a status.
