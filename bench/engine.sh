@@ -1,0 +1,14 @@
+#!/bin/sh
+# What the worker's engine takes to pass packets on, beside the same written plainly in Rust and in C: one Producer of opus
+# with 1, 10 and 50 Consumers, payloads of 160 and 1,200 bytes, without a header extension and with one of three elements.
+# Nothing is sent: the outbox looks at the last byte of each frame. The three take turns, and have to agree on every byte.
+# Usage: bench/engine.sh [REPEATS]. REPEATS is 3 by default; the best of them counts. It prints nanoseconds for each packet out.
+. "$(dirname "$0")/scaffold.sh"
+needs rt clang rustc python3
+take seq_manager rtp_packet rtp_extension ms_base ms_devices channel_frames channel_msgs rtp_params worker_engine
+caller engine 'engine_bench: ms_base ms_devices worker_engine anyhow'
+rm "$work/crates/engine_bench/"*.c "$work/crates/engine_bench/"*.rs "$work/crates/engine_bench/"*.py
+built engine_bench run </dev/null
+clang -O2 -march=x86-64-v2 -o "$work/plain_c" "$bench/engine/plain.c"
+rustc --edition 2021 -C opt-level=3 -C target-cpu=x86-64-v2 -o "$work/plain_rust" "$bench/engine/plain.rs"
+python3 "$bench/engine/main.py" "$bench/engine" "$work" "${1:-3}"
