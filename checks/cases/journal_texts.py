@@ -18,6 +18,10 @@ OTHER_LINES = (
     *("call 1 worker", "call 1 router", "call 1 worker\r w 0", "spawned", "chunk"),
     *("spawned 1 1 Up", "spawned 1 1 up ", "spawned 1 1  up", "spawned\t1 1 up"),
     *("call 1 router r w", "call 1 router r w ", "call 1 router r  w {}"),
+    *("call 1 pipe t r []", "call 1 connect t {}", "call 1 produce p t {}", "call 1 pause p"),
+    *("call 1 resume p", "call 1 canconsume p {}", "call 1 piperouter k p r", "call 1 together 2"),
+    *("call 0 pipe T r", "call 1 send p 00 00", "call 1 send P 0", "await 1 w", "await 0 W x 0"),
+    *("await 1 w running 1 ", "await 1 w gone 1", "call 1 await w running 1", "stop 1"),
     *("call 65 worker W x", "call 1 worker W 1001", "chunk 0 0 0", "chunk 1 1002 g"),
     *("chunk 1 1", "chunk 1 1 ", "chunk 1 1 00 00", "call 1 worker w", "call 1 worker w 0 "),
     *("call 1 worker w 0 0", "call 0 router R W {", "call 1 router r W {"),
@@ -47,6 +51,11 @@ NOT_UTF8 = {
 FORMS = {
     "call 1 worker w 0": (None, NUMBERS, None, ODD_NAMES, NUMBERS),
     "call 1 router r w {}": (None, NUMBERS, None, ODD_NAMES, ODD_NAMES, ("{", "", "[]")),
+    "call 1 consume c t p {}": (None, NUMBERS, None, ODD_NAMES, ODD_NAMES, ODD_NAMES, ("{", "", "[]")),
+    "call 1 direct d r": (None, NUMBERS, None, ODD_NAMES, ODD_NAMES),
+    "call 1 close w": (None, NUMBERS, None, ODD_NAMES),
+    "call 1 send p 00": (None, NUMBERS, None, ODD_NAMES, ODD_HEX),
+    "await 1 w open 1": (None, NUMBERS, ODD_NAMES, ("opened", "", "Open", "gone"), NUMBERS),
     "spawned 1 1 up": (None, NUMBERS, NUMBERS, ("up ", "", "UP", "failed", "end")),
     "chunk 1 1 00": (None, NUMBERS, NUMBERS, ODD_HEX),
 }

@@ -5,7 +5,7 @@ journals that stand in examples/ with their transcripts.
 from dataclasses import dataclass, field
 
 from model import lines
-from model.journal import SLOTS, RouterCall, Spawned, WorkerCall
+from model.journal import SLOTS, NotServed, RouterCall, Spawned, WorkerCall
 from model.messages import Accepted, Log, Notice, Packet, Refused, message_of
 
 PAYLOAD_LIMIT = 4_194_304
@@ -62,6 +62,8 @@ class Host:
         self.notes.append(line)
 
     def enter(self, entry):
+        if isinstance(entry, NotServed):
+            raise NotBuilt
         if isinstance(entry, WorkerCall):
             self.call_worker(entry)
         elif isinstance(entry, RouterCall):

@@ -9,6 +9,8 @@ CHUNK_LIMIT = 65_536
 SLOTS = LANES = 64
 GENERATIONS = 1_001
 BUDGETS = 1_000
+COUNTS = 1_000_000_000
+EVENTS = ("running", "open", "closed", "paused", "resumed", "tuple", "rtp")
 SEEDS = 2**60
 
 
@@ -36,6 +38,10 @@ class RouterCall:
     name: str
     worker: str
     options: str
+
+
+class NotServed:
+    """A call or a wait that no host serves yet."""
 
 
 @dataclass
@@ -90,22 +96,36 @@ def seed_of(line):
 
 def entry_of(line):
     words = line.split(" ")
-    if words[0] == "call" and words[2:3] == ["worker"]:
+    if words[0] == "call" and words[2:3] and words[2] in CALLS:
+        return call_of(words[2], line)
+    if words[0] == "await":
         with_words(words, 5)
-        lane, name = number_of(words[1], 1, LANES), name_of(words[3])
-        return WorkerCall(lane, name, number_of(words[4], 0, BUDGETS))
-    if words[0] == "call" and words[2:3] == ["router"]:
-        words = line.split(" ", 5)
-        with_words(words, 6)
-        lane, name = number_of(words[1], 1, LANES), name_of(words[3])
-        return RouterCall(lane, name, name_of(words[4]), json_of(words[5]))
+        number_of(words[1], 1, LANES)
+        name_of(words[2])
+        event_of(words[3])
+        number_of(words[4], 1, COUNTS)
+        return NotServed()
     if words[0] == "spawned":
         with_words(words, 4)
         return Spawned(*worker_of(words), is_up_of(words[3]))
     if words[0] == "chunk":
         with_words(words, 4)
-        return Chunk(*worker_of(words), bytes_of(words[3]))
+        return Chunk(*worker_of(words), bytes_of(words[3], CHUNK_LIMIT))
     raise Fault("op")
+
+
+def call_of(word, line):
+    """A call by the forms of the words behind its first: a JSON text is the rest of the line."""
+    forms = CALLS[word]
+    words = line.split(" ", 2 + len(forms) if forms[-1] is json_of else -1)
+    with_words(words, 3 + len(forms))
+    lane = number_of(words[1], 1, LANES)
+    values = [read(part) for read, part in zip(forms, words[3:])]
+    if word == "worker":
+        return WorkerCall(lane, *values)
+    if word == "router":
+        return RouterCall(lane, *values)
+    return NotServed()
 
 
 def with_words(words, count):
@@ -147,7 +167,37 @@ def json_of(word):
     return word
 
 
-def bytes_of(word):
-    if len(word) > 2 * CHUNK_LIMIT or re.fullmatch("(?:[0-9a-fA-F]{2})+", word) is None:
+def bytes_of(word, limit=None):
+    if limit is not None and len(word) > 2 * limit:
+        raise Fault("hex")
+    if re.fullmatch("(?:[0-9a-fA-F]{2})+", word) is None:
         raise Fault("hex")
     return bytes.fromhex(word)
+
+
+def budget_of(word):
+    return number_of(word, 0, BUDGETS)
+
+
+def event_of(word):
+    if word not in EVENTS:
+        raise Fault("event")
+    return word
+
+
+# The words behind the first of each call, by how each is read.
+CALLS = {
+    "worker": (name_of, budget_of),
+    "router": (name_of, name_of, json_of),
+    "plain": (name_of, name_of, json_of),
+    "pipe": (name_of, name_of, json_of),
+    "direct": (name_of, name_of),
+    "connect": (name_of, json_of),
+    "produce": (name_of, name_of, json_of),
+    "consume": (name_of, name_of, name_of, json_of),
+    "pause": (name_of,),
+    "resume": (name_of,),
+    "close": (name_of,),
+    "canconsume": (name_of, json_of),
+    "send": (name_of, bytes_of),
+}

@@ -33,6 +33,9 @@ entered-behind s (entry.Call lane o ∷ es) =
     let one : now.calls ≡ s.calls ++ call ∷ [] = (answered-apart (next_call s.calls lane) (answer (known s) o) (entered lane o s)).0 in
     entered-behind now es ∙ ap (λ (cs : List Entered). cs ++ keys_behind cs es) one
     ∙ append_assoc s.calls (call ∷ []) (keys_behind (s.calls ++ call ∷ []) es)
+entered-behind s (entry.Await lane name event count ∷ es) = entered-behind s es
+entered-behind s (entry.Gone worker cause ∷ es) = entered-behind s es
+entered-behind s (entry.Stop ∷ es) = entered-behind s es
 entered-behind s (entry.Spawned worker up ∷ es) =
     let now = after s (entry.Spawned worker up) in
     entered-behind now es ∙ ap (λ (cs : List Entered). cs ++ keys_behind cs es) (started-apart (up && is_wanted s.slots worker) worker s).0

@@ -7,7 +7,7 @@ use Rattle.std.proofs.lemmas.Bool.Decides.{nat_tests}
 use Rattle.serde_json.specs.Written.{compact_text}
 use Rattle.ms_base.specs.declared.keys.Serial.{Serial}
 use Rattle.ms_base.specs.declared.keys.WorkerKey.{WorkerKey}
-use Rattle.ms_base.specs.declared.entry.Op.{Op}
+use Rattle.ms_base.specs.declared.op.Op.{Op}
 use Rattle.ms_base.specs.declared.outcome.Outcome.{Outcome}
 use Rattle.ms_base.specs.declared.outcome.Outcome.TheVariants as outcome
 use Rattle.channel_frames.specs.Frames.{max_payload}

@@ -5,7 +5,7 @@ use Rattle.std.proofs.lemmas.List.Concat.{flat_map-cons}
 use Rattle.hex.specs.Hex.{encode_with, encode_lower, lower_digits}
 use Rattle.ms_base.specs.declared.entry.Entry.{Entry}
 use Rattle.ms_base.specs.declared.entry.Entry.TheVariants as entry
-use Rattle.ms_base.specs.declared.entry.Op.{Op}
+use Rattle.ms_base.specs.declared.op.Op.{Op}
 use Rattle.ms_base.specs.declared.keys.CallKey.{CallKey}
 use Rattle.ms_base.specs.declared.keys.WorkerKey.{WorkerKey}
 use Rattle.ms_base.specs.declared.outcome.Outcome.{Outcome}
@@ -171,6 +171,9 @@ module _ (few : TakeAByteEach) where
 
   micros-line : (s : State) (e : Entry) → length (micros s e) ≤ length (entry_line e)
   micros-line s (entry.Call lane o) = line-first (entry.Call lane o)
+  micros-line s (entry.Await lane name event count) = omega arith
+  micros-line s (entry.Gone worker cause) = omega arith
+  micros-line s entry.Stop = omega arith
   micros-line s (entry.Spawned worker up) =
       few-if (up && is_wanted s.slots worker) (Starting worker ∷ []) (length (entry_line (entry.Spawned worker up))) (line-first (entry.Spawned worker up))
   micros-line s (entry.Chunk worker bytes) =

@@ -146,8 +146,11 @@ module _ (cut : (first later : List ℕ) → is_broken (first ++ later) ≡ is_b
 
   pub built-whole : (e : Entry) (s : State) (t : Tables) (r : Readers) → IsHeld s t r → is_unbuilt s e ≡ false → BreaksNone t r e
   built-whole (entry.Call lane o) s t r h built = tt
+  built-whole (entry.Await lane name event count) s t r h built = tt
   built-whole (entry.Spawned worker up) s t r h built = tt
   built-whole (entry.Chunk worker bytes) s t r h built = unbuilt-chunk worker bytes s t r h ∙ built
+  built-whole (entry.Gone worker cause) s t r h built = tt
+  built-whole entry.Stop s t r h built = tt
 
 -- ---- what an entry adds
 

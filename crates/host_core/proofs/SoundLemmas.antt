@@ -3,7 +3,7 @@ use Rattle.std.proofs.Common.{◌≡◌, ◌≤◌, ℕ, suc, ◌+◌, List, [],
 use Rattle.std.proofs.lemmas.Bool.{eqb-true}
 use Rattle.std.proofs.lemmas.Bool.Decides.{nat_tests}
 use Rattle.std.proofs.lemmas.List.{length_push}
-use Rattle.ms_base.specs.declared.entry.Op.{Op}
+use Rattle.ms_base.specs.declared.op.Op.{Op}
 use Rattle.ms_base.specs.declared.keys.CallKey.{CallKey}
 use Rattle.ms_base.specs.declared.keys.WorkerKey.{WorkerKey}
 use Rattle.ms_base.specs.declared.outcome.Outcome.{Outcome}

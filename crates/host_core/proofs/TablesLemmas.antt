@@ -7,7 +7,7 @@ use Rattle.std.proofs.lemmas.Bool.Decides.{nat_tests}
 use Rattle.std.proofs.lemmas.List.{length-map}
 use Rattle.std.proofs.lemmas.List.Folds.{find-append}
 use Rattle.std.proofs.lemmas.List.Sums.{length-filter}
-use Rattle.ms_base.specs.declared.entry.Op.{Op}
+use Rattle.ms_base.specs.declared.op.Op.{Op}
 use Rattle.ms_base.specs.declared.keys.WorkerKey.{WorkerKey}
 use Rattle.transcript.specs.declared.note.Note.{Note}
 use Rattle.transcript.specs.declared.note.Note.TheVariants as note

@@ -8,8 +8,8 @@ use Rattle.ms_base.specs.declared.keys.Kind.{Kind}
 use Rattle.ms_base.specs.declared.keys.Kind.TheVariants as kind
 use Rattle.ms_base.specs.declared.keys.Serial.{Serial}
 use Rattle.ms_base.specs.declared.keys.WorkerKey.{WorkerKey}
-use Rattle.ms_base.specs.declared.entry.Op.{Op}
-use Rattle.ms_base.specs.declared.entry.Op.TheVariants as op
+use Rattle.ms_base.specs.declared.op.Op.{Op}
+use Rattle.ms_base.specs.declared.op.Op.TheVariants as op
 use Rattle.ms_base.specs.declared.code.Code.TheVariants as code
 use Rattle.ms_base.specs.declared.outcome.Outcome.{Outcome}
 use Rattle.ms_base.specs.declared.outcome.Outcome.TheVariants as outcome
@@ -40,10 +40,11 @@ known s = record { seed = s.seed; objects = s.objects; being_made = being_made s
 
 -- ---- the names of a call
 
--- those that it is to make
+-- those that it is to make; other calls are not built yet, and none of them is entered
 abbrev pub makes : Op → List (List ℕ)
 makes (op.Worker name budget) = name ∷ []
 makes (op.Router name worker options) = name ∷ []
+makes other = []
 
 -- a name is taken where an object has it, open or closed, or a pending request is to make one of it
 abbrev pub is_taken : Known → List ℕ → Bool
@@ -58,6 +59,7 @@ pub data Found : Type 0 where
 abbrev pub found : Known → Op → Option Found
 found k (op.Worker name budget) = Some (Worker name budget)
 found k (op.Router name worker options) = option_map (λ w. Router name w options) (named k.objects worker)
+found k other = None
 
 -- An object that a call needs, and the kinds that it may be of.
 pub record Need : Type 0 where

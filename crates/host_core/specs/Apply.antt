@@ -1,11 +1,11 @@
 -- What stands in the way of an entry. This project's own.
-use Rattle.std.specs.Prelude.{ℕ, ◌+◌, ◌++◌, length, min, nat_lt, Bool, not, ◌&&◌, ◌==◌, if◌then◌else◌, Option, Some, None, List, codes, bytes_eq}
+use Rattle.std.specs.Prelude.{ℕ, ◌+◌, ◌++◌, length, min, nat_lt, Bool, true, not, ◌&&◌, ◌==◌, if◌then◌else◌, Option, Some, None, List, codes, bytes_eq}
 use Rattle.ms_base.specs.declared.applied.ApplyFault.{ApplyFault}
 use Rattle.ms_base.specs.declared.applied.ApplyFault.TheVariants as fault
 use Rattle.ms_base.specs.declared.entry.Entry.{Entry}
 use Rattle.ms_base.specs.declared.entry.Entry.TheVariants as entry
-use Rattle.ms_base.specs.declared.entry.Op.{Op}
-use Rattle.ms_base.specs.declared.entry.Op.TheVariants as op
+use Rattle.ms_base.specs.declared.op.Op.{Op}
+use Rattle.ms_base.specs.declared.op.Op.TheVariants as op
 use Rattle.channel_frames.specs.Frames.{is_broken}
 use Rattle.journal_text.specs.Written.{entry_line, journal_size, max_journal, max_told}
 use Rattle.host_core.specs.State.{State, is_up, is_wanted, stream_of}
@@ -23,12 +23,15 @@ built_options = codes "{\"mediaCodecs\":[]}"
 abbrev pub is_unbuilt_op : Op → Bool
 is_unbuilt_op (op.Worker name budget) = not (budget == 0)
 is_unbuilt_op (op.Router name worker options) = not (bytes_eq options built_options)
+is_unbuilt_op other = true
 
--- a budget that isn't 0, other options, a failed start, and a chunk that breaks its stream
+-- a budget that isn't 0, other options, any other call, a failed start, a chunk that breaks its stream, and any other
+-- entry
 abbrev pub is_unbuilt : State → Entry → Bool
 is_unbuilt s (entry.Call lane op) = is_unbuilt_op op
 is_unbuilt s (entry.Spawned worker up) = not up && is_wanted s.slots worker
 is_unbuilt s (entry.Chunk worker bytes) = is_up s.slots worker && is_broken (stream_of s.streams worker ++ bytes)
+is_unbuilt s other = true
 
 -- a host that has run out of memory answers that again; then the journal's limit counts, and then what is built
 abbrev pub fault_of : HostView → Entry → Option ApplyFault

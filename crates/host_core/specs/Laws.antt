@@ -130,8 +130,7 @@ abbrev pub keys_behind : List Entered → List Entry → List Entered
 keys_behind before [] = []
 keys_behind before (entry.Call lane op ∷ es) =
     let call : Entered = record { key = next_call before lane; makes = makes op } in call ∷ keys_behind (before ++ call ∷ []) es
-keys_behind before (entry.Spawned worker up ∷ es) = keys_behind before es
-keys_behind before (entry.Chunk worker bytes ∷ es) = keys_behind before es
+keys_behind before (other ∷ es) = keys_behind before es
 
 -- ---- the ids that go to a worker, as it reads them
 

@@ -9,8 +9,8 @@ use Rattle.ms_base.specs.Id.{id_bytes, id_text}
 use Rattle.ms_base.specs.declared.keys.WorkerKey.{WorkerKey}
 use Rattle.ms_base.specs.declared.entry.Entry.{Entry}
 use Rattle.ms_base.specs.declared.entry.Entry.TheVariants as entry
-use Rattle.ms_base.specs.declared.entry.Op.{Op}
-use Rattle.ms_base.specs.declared.entry.Op.TheVariants as op
+use Rattle.ms_base.specs.declared.op.Op.{Op}
+use Rattle.ms_base.specs.declared.op.Op.TheVariants as op
 use Rattle.channel_frames.specs.Frames.{frame, frames_within, rest_within, is_broken}
 use Rattle.channel_msgs.specs.Packet.{packet_in}
 use Rattle.channel_msgs.specs.Read.{message_of}

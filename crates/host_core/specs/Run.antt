@@ -37,11 +37,12 @@ abbrev pub chunk_micros : WorkerKey → List ℕ → List ℕ → List Micro
 chunk_micros worker stream bytes =
     Comes worker bytes ∷ (map (λ payload. Says worker (message_of payload)) (new_frames stream bytes) ++ break_behind worker stream bytes)
 
--- none where the entry doesn't fit
+-- none where the entry doesn't fit, or is not built
 abbrev pub micros : State → Entry → List Micro
 micros s (entry.Call lane op) = Calls lane op ∷ []
 micros s (entry.Spawned worker up) = if up && is_wanted s.slots worker then Starting worker ∷ [] else []
 micros s (entry.Chunk worker bytes) = if is_up s.slots worker then chunk_micros worker (stream_of s.streams worker) bytes else []
+micros s other = []
 
 abbrev pub after : State → Entry → State
 after s e = steps s (micros s e)

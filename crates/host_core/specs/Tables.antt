@@ -114,9 +114,8 @@ IsFree t (answers.Issues under makes channel id payload) = waiting_at t.requests
 -- ---- a chunk that is heard breaks no stream
 
 abbrev pub BreaksNone : Tables → Readers → Entry → Type 0
-BreaksNone t r (entry.Call lane op) = ⊤
-BreaksNone t r (entry.Spawned worker up) = ⊤
 BreaksNone t r (entry.Chunk worker bytes) = (is_up t.slots.slots worker && is_broken (unread_of r worker ++ bytes)) ≡ false
+BreaksNone t r other = ⊤
 
 -- ---- a host is a run of its journal
 

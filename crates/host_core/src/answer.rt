@@ -1,6 +1,6 @@
 ghost use Rattle.std.specs.Prelude.{◌≡◌, ℕ, List, ◌<◌, ◌≤◌, ◌^◌, ◌+◌, IfOk, Some, None};
 ghost use Rattle.host_core.specs.Answer.{answer, answer_to, build, on_channel, is_taken, max_slots, new_object, router_ask};
-ghost use Rattle.ms_base.specs.declared.entry.Op.TheVariants as operation;
+ghost use Rattle.ms_base.specs.declared.op.Op.TheVariants as operation;
 ghost use Rattle.host_core.specs.Answer as answers;
 ghost use Rattle.host_core.specs.Tables.{HasSerial, HasNoFloat, known_of, built_view, answer_view, ask_view};
 ghost use Rattle.host_core.specs.State.{object_id};
@@ -78,6 +78,10 @@ impl Tables {
         match op {
             Op::Worker { name, budget } => self.build_worker(name, *budget),
             Op::Router { name, worker, .. } => self.build_router(name, worker),
+            // No other call is built, so none is entered.
+            _ => Ok(Built::Refused {
+                outcome: Outcome::NoName,
+            }),
         }
     }
 

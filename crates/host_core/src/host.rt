@@ -116,19 +116,13 @@ impl Host {
     {
         frames_of_a_cut_stream();
         match entry {
-            Entry::Call {
-                op: Op::Worker { budget, .. },
-                ..
-            } => *budget != 0,
-            Entry::Call {
-                op: Op::Router { options, .. },
-                ..
-            } => options.as_str() != "{\"mediaCodecs\":[]}",
+            Entry::Call { op, .. } => is_unbuilt_op(op),
             Entry::Spawned { worker, up } => !*up && self.tables.slots.is_wanted(*worker),
             Entry::Chunk { worker, bytes } => {
                 self.tables.slots.is_up(*worker)
                     && self.readers.breaks_with(*worker, bytes.as_slice())
             }
+            _ => true,
         }
     }
 
@@ -232,6 +226,17 @@ impl Host {
     }
 }
 
+// Whether a call is of a kind that is not built yet.
+fn is_unbuilt_op(op: &Op) -> bool
+    ensures { result ≡ Rattle.host_core.specs.Apply.is_unbuilt_op op.now }
+{
+    match op {
+        Op::Worker { budget, .. } => *budget != 0,
+        Op::Router { options, .. } => options.as_str() != "{\"mediaCodecs\":[]}",
+        _ => true,
+    }
+}
+
 // Hears an entry that is built: the tables and the readers go on, and what follows is noted.
 fn hear(tables: &mut Tables, readers: &mut Readers, entry: &Entry) -> Result<(), NoMemory>
     requires room { HasRoom tables.old }
@@ -243,6 +248,8 @@ fn hear(tables: &mut Tables, readers: &mut Readers, entry: &Entry) -> Result<(),
         Entry::Call { lane, op } => tables.call(*lane, op),
         Entry::Spawned { worker, up } => hear_start(tables, *worker, *up),
         Entry::Chunk { worker, bytes } => hear_chunk(tables, readers, *worker, bytes.as_slice()),
+        // No other entry is built.
+        _ => Ok(()),
     }
 }
 

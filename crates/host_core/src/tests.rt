@@ -1,6 +1,7 @@
 use crate::Host;
 use ms_base::{
-    Applied, ApplyFault, Bytes, CallKey, Entry, Name, Op, SlotLook, Text, Verdict, WorkerKey,
+    Applied, ApplyFault, Bytes, CallKey, Entry, Event, GoneCause, Name, Op, SlotLook, Text,
+    Verdict, WorkerKey,
 };
 use std::alloc::Global;
 use std::test::Fail;
@@ -139,10 +140,42 @@ fn an_entry_tells_its_place_and_its_notes(rt: HostRuntime) -> Result<(), Fail> {
     Ok(())
 }
 
+// An entry of each form that is not built.
+fn unbuilt_entry(alloc: Global, form: usize) -> Result<Entry, Fail> {
+    let name = Name::read(alloc, b"w")?;
+    Ok(match form {
+        0 => worker_call(alloc, 1)?,
+        1 => Entry::Call {
+            lane: 1,
+            op: Op::Close { name },
+        },
+        2 => Entry::Await {
+            lane: 1,
+            name,
+            event: Event::Opened,
+            count: 1,
+        },
+        3 => Entry::Gone {
+            worker: FIRST,
+            cause: GoneCause::End,
+        },
+        _ => Entry::Stop,
+    })
+}
+
+// What a host that has heard nothing answers to such an entry.
+fn answer_to_unbuilt(alloc: Global, form: usize) -> Result<Result<Applied, ApplyFault>, Fail> {
+    let mut host = Host::new(alloc, 7)?;
+    Ok(host.apply(unbuilt_entry(alloc, form)?))
+}
+
 #[test]
 fn what_is_not_built_is_refused(rt: HostRuntime) -> Result<(), Fail> {
-    let mut host = Host::new(rt.alloc(), 7)?;
-    let call = worker_call(rt.alloc(), 1)?;
-    assert_eq!(rt; host.apply(call), Err(ApplyFault::Unbuilt));
+    for form in 0..5 {
+        assert_eq!(rt;
+            answer_to_unbuilt(rt.alloc(), form)?,
+            Err(ApplyFault::Unbuilt)
+        );
+    }
     Ok(())
 }

@@ -1,9 +1,5 @@
-pub mod Numbers
-pub mod Pieces
-pub mod Shapes
 pub mod Texts
-pub mod HexCase
-pub mod Spelling
-pub mod WellFormed
-pub mod Back
+pub mod Lines
+pub mod Journals
 pub mod Sizes
+pub mod Shapes

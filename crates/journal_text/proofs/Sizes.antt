@@ -13,15 +13,10 @@ size_of_chunk : (worker : WorkerKey) (bytes : List ℕ)
     → length (entry_line (entry.Chunk worker bytes)) ≡ 9 + length (decimal worker.slot) + length (decimal worker.generation) + 2 * length bytes
 size_of_chunk worker bytes = simp (length-append, length-encode_with) (omega arith)
 
-told_chunk : (e : Entry) (worker : WorkerKey) (bytes : List ℕ) → e ≡ entry.Chunk worker bytes
-    → told_entry_size e ≡ min (9 + length (decimal worker.slot) + length (decimal worker.generation) + 2 * length bytes) max_told
-told_chunk e worker bytes is = ap told_entry_size is ∙ ap (λ (n : ℕ). min n max_told) (size_of_chunk worker bytes)
-
-pub told_sum : (e : Entry) (worker : WorkerKey) (bytes : List ℕ) (slot generation len twice size : ℕ) → e ≡ entry.Chunk worker bytes
-    → slot ≡ length (decimal worker.slot) → generation ≡ length (decimal worker.generation) → len ≡ length bytes
-    → twice ≡ min (len * 2) max_told → size ≡ min (twice + (9 + slot + generation)) max_told → size ≡ told_entry_size e
-told_sum e worker bytes slot generation len twice size is is_slot is_generation is_len doubled sized =
-    sized ∙ rw (told_chunk e worker bytes is, doubled, is_len, is_slot, is_generation) (omega arith)
+pub told_chunk : (worker : WorkerKey) (bytes : List ℕ) (key twice size : ℕ) → key ≡ length (decimal worker.slot) + length (decimal worker.generation)
+    → twice ≡ min (length bytes * 2) max_told → size ≡ min (twice + (9 + key)) max_told → size ≡ told_entry_size (entry.Chunk worker bytes)
+told_chunk worker bytes key twice size is_key doubled sized =
+    sized ∙ rw (size_of_chunk worker bytes, doubled, is_key) (omega arith)
 
 -- ---- sizes of journals
 

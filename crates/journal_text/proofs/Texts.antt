@@ -1,5 +1,5 @@
 -- The lines of a text, one after another.
-use Rattle.std.proofs.Common.{◌≡◌, ℕ, ◌+◌, ◌<◌, List, [], ◌∷◌, ◌++◌, length, Result, Ok, Err, refl, sym, ◌∙◌, ap, arith, append_assoc, eqb, subst}
+use Rattle.std.proofs.Common.{◌≡◌, ℕ, ◌+◌, ◌<◌, List, [], ◌∷◌, ◌++◌, length, codes, Result, Ok, Err, refl, sym, ◌∙◌, ap, arith, append_assoc, eqb, subst}
 use Rattle.std.proofs.lemmas.Bool.{cond-true, cond-false, ne_eqb}
 use Rattle.std.proofs.lemmas.List.Splits.{length-slice_split}
 use Rattle.std.proofs.lemmas.List.{append-nil}
@@ -8,19 +8,12 @@ use Rattle.std.specs.Str.{IsUtf8}
 use Rattle.ms_base.specs.declared.code.Code.{Code}
 use Rattle.ms_base.specs.declared.code.Code.TheVariants as code
 use Rattle.ms_base.specs.declared.entry.Entry.{Entry}
-use Rattle.journal_text.specs.Reading.{BadLine, reading_of, reading_of_lines, behind_head, lines, words, entry_of_line, entry_of_words, seed_of_line, seed_of_words, entries_of, at_line, with_front, cut, ◌>>=◌}
+use Rattle.script_text.specs.Words.{◌>>=◌, BadLine, lines, words, seed_of_line, at_line}
+use Rattle.journal_text.specs.Reading.{reading_of, reading_of_lines, behind_head, entry_of_line, entry_of_words, entries_of, with_front, cut}
 use Rattle.journal_text.specs.declared.fault.JournalFault.{JournalFault}
 use Rattle.journal_text.specs.declared.fault.JournalFault.TheVariants as fault
 use Rattle.journal_text.specs.Gives.{Tells, told_line}
-use Rattle.journal_text.proofs.Pieces.{not_utf8}
-
-pub head_text : (line : List ℕ) → IsUtf8 line → seed_of_line line ≡ seed_of_words (words line)
-unfolding seed_of_line
-head_text line text = cond-true _ _ _ (is_utf8-from_IsUtf8 line text)
-
-pub head_no_text : (line : List ℕ) → (IsUtf8 line → ⊥) → seed_of_line line ≡ Err code.Utf8
-unfolding seed_of_line
-head_no_text line bad = cond-false _ _ _ (not_utf8 line bad)
+use Rattle.script_text.proofs.Pieces.{not_utf8}
 
 pub entry_text : (line : List ℕ) → IsUtf8 line → entry_of_line line ≡ entry_of_words (words line)
 unfolding entry_of_line
@@ -84,12 +77,12 @@ behind seed read = do
   entries ← read
   Ok (seed, entries)
 
-pub head_fault : (text head : List ℕ) (ws : List (List ℕ)) (c : Code) → lines text ≡ head ∷ ws → seed_of_line head ≡ Err c
+pub head_fault : (text head : List ℕ) (ws : List (List ℕ)) (c : Code) → lines text ≡ head ∷ ws → seed_of_line (codes "journal") head ≡ Err c
     → reading_of text ≡ Err (record { line = 1; code = c })
 unfolding reading_of_lines
 head_fault text head ws c e h = ap reading_of_lines e ∙ ap (λ r. at_line 1 r >>= λ seed. behind seed (behind_head ws)) h
 
-pub head_cut : (text head : List ℕ) (seed : ℕ) → lines text ≡ head ∷ [] → seed_of_line head ≡ Ok seed
+pub head_cut : (text head : List ℕ) (seed : ℕ) → lines text ≡ head ∷ [] → seed_of_line (codes "journal") head ≡ Ok seed
     → reading_of text ≡ Err (record { line = 1; code = code.Cut })
 unfolding reading_of_lines
 head_cut text head seed e h = ap reading_of_lines e ∙ ap (λ r. at_line 1 r >>= λ seed. behind seed (behind_head [])) h
@@ -98,7 +91,7 @@ behind_some : (ws : List (List ℕ)) → 0 < length ws → behind_head ws ≡ en
 behind_some [] h = absurd (omega arith)
 behind_some (w ∷ ws) h = refl
 
-pub head_read : (text head rest : List ℕ) (seed : ℕ) → lines text ≡ head ∷ lines rest → seed_of_line head ≡ Ok seed
+pub head_read : (text head rest : List ℕ) (seed : ℕ) → lines text ≡ head ∷ lines rest → seed_of_line (codes "journal") head ≡ Ok seed
     → reading_of text ≡ behind seed (entries_of 2 (lines rest))
 unfolding reading_of_lines
 head_read text head rest seed e h =
@@ -106,7 +99,7 @@ head_read text head rest seed e h =
     ∙ ap (λ r. at_line 1 r >>= λ s. behind s (behind_head (lines rest))) h
     ∙ ap (behind seed) (behind_some (lines rest) (lines_some rest))
 
-pub all_read : (text head rest : List ℕ) (seed : ℕ) (entries : List Entry) → lines text ≡ head ∷ lines rest → seed_of_line head ≡ Ok seed
+pub all_read : (text head rest : List ℕ) (seed : ℕ) (entries : List Entry) → lines text ≡ head ∷ lines rest → seed_of_line (codes "journal") head ≡ Ok seed
     → entries_of 2 (lines rest) ≡ Ok entries → reading_of text ≡ Ok (seed, entries)
 all_read text head rest seed entries e h r = head_read text head rest seed e h ∙ ap (behind seed) r
 

@@ -1,46 +1,42 @@
 -- Worked rows for the text of a journal.
-use Rattle.std.specs.Prelude.{◌≡◌, ℕ, ◌-◌, ◌^◌, List, [], ◌∷◌, ◌++◌, true, false, codes, Result, Ok, Err, ⊤, refl}
+use Rattle.std.specs.Prelude.{◌≡◌, ℕ, ◌-◌, ◌^◌, List, [], ◌∷◌, ◌++◌, true, false, codes, map, replicate, Option, Some, None, Result, Ok, Err, ⊤, refl}
 use Rattle.std.specs.Str.{chars, is_utf8}
 use Rattle.std.specs.Char.{encode_utf8}
 use Rattle.std.specs.Fmt.{digits}
 use Rattle.hex.specs.Hex.{decode_pairs, encode_with}
 use Rattle.serde_json.proofs.OnLiterals.{serde_json_on_literals}
 use Rattle.ms_base.specs.Name.{is_name, is_name_byte}
+use Rattle.ms_base.specs.declared.keys.Event.TheVariants as event
+use Rattle.ms_base.specs.declared.keys.GoneCause.TheVariants as cause
 use Rattle.ms_base.specs.declared.keys.WorkerKey.{WorkerKey}
 use Rattle.ms_base.specs.declared.code.Code.{Code}
 use Rattle.ms_base.specs.declared.code.Code.TheVariants as code
 use Rattle.ms_base.specs.declared.entry.Entry.{Entry}
 use Rattle.ms_base.specs.declared.entry.Entry.TheVariants as entry
-use Rattle.ms_base.specs.declared.entry.Op.TheVariants as op
+use Rattle.ms_base.specs.declared.op.Op.TheVariants as op
+use Rattle.script_text.specs.Words.{BadLine, number_of, seed_of_words, seed_of_line}
+use Rattle.script_text.specs.Calls.{await_of, op_words, is_well_formed_op}
+use Rattle.script_text.specs.Calls.{call_of as op_by_verb}
 use Rattle.journal_text.specs.Case.{in_lower_case}
-use Rattle.journal_text.specs.Reading.{BadLine, number_of, worker_line, worker_call, router_line, router_call, call_of, spawned_line, spawned_of, chunk_line, chunk_of, entry_of_words, entry_of_line, seed_of_words, seed_of_line, entries_of, reading_of_lines, reading_of}
+use Rattle.journal_text.specs.Reading.{call_of, wait_of, worker_line, entry_of_words, entry_of_line, entries_of, reading_of_lines, reading_of}
 use Rattle.journal_text.specs.WellFormed.{is_well_formed, are_well_formed}
-use Rattle.journal_text.specs.Written.{journal_text, journal_size}
+use Rattle.journal_text.specs.Written.{entry_line, journal_text, journal_size}
 
 -- what a row unfolds to compute
 unfoldable on_literals : ⊤
-unfolding number_of worker_line worker_call router_line router_call call_of spawned_line spawned_of chunk_line chunk_of entry_of_words entry_of_line seed_of_words seed_of_line entries_of reading_of_lines is_well_formed chars is_utf8 encode_utf8 decode_pairs encode_with digits is_name is_name_byte serde_json_on_literals
+unfolding number_of seed_of_words seed_of_line await_of op_words is_well_formed_op op_by_verb call_of wait_of worker_line entry_of_words entry_of_line entries_of reading_of_lines is_well_formed chars is_utf8 encode_utf8 decode_pairs encode_with digits is_name is_name_byte serde_json_on_literals
 on_literals = tt
-
--- what a text with this first fault is read as
-abbrev pub bad : ℕ → Code → Result (ℕ × List Entry) BadLine
-bad n c = Err (record { line = n; code = c })
 
 abbrev pub key : ℕ → ℕ → WorkerKey
 key s g = record { slot = s; generation = g }
 
-pub a_head_alone : reading_of (codes "journal 1 7\n") ≡ Ok (7, [])
-unfolding on_literals
-a_head_alone = refl
+-- ---- whole texts
 
-pub the_greatest_seed : reading_of (codes "journal 1 1152921504606846975\n") ≡ Ok (2 ^ 60 - 1, [])
-unfolding on_literals
-the_greatest_seed = refl
-
-pub every_line : reading_of (codes "journal 1 0\ncall 1 worker w 0\ncall 64 router r w {\"mediaCodecs\": []} \nspawned 1 1 up\nspawned 64 1001 failed\nchunk 2 3 00fF\n") ≡ Ok (
-  0,
-  entry.Call 1 (op.Worker (codes "w") 0)
-      ∷ entry.Call 64 (op.Router (codes "r") (codes "w") (codes "{\"mediaCodecs\": []} "))
+pub every_line : reading_of (codes "journal 1 1152921504606846975\ncall 64 router r w {\"mediaCodecs\": []} \ncall 1 send p 80fF\nawait 2 w running 3\nspawned 1 1 up\nspawned 64 1001 failed\nchunk 2 3 00fF\n") ≡ Ok (
+  2 ^ 60 - 1,
+  entry.Call 64 (op.Router (codes "r") (codes "w") (codes "{\"mediaCodecs\": []} "))
+      ∷ entry.Call 1 (op.Send (codes "p") (128 ∷ 255 ∷ []))
+      ∷ entry.Await 2 (codes "w") event.Running 3
       ∷ entry.Spawned (key 1 1) true
       ∷ entry.Spawned (key 64 1001) false
       ∷ entry.Chunk (key 2 3) (0 ∷ 255 ∷ []) ∷ [],
@@ -48,215 +44,121 @@ pub every_line : reading_of (codes "journal 1 0\ncall 1 worker w 0\ncall 64 rout
 unfolding on_literals
 every_line = refl
 
-pub nothing : reading_of (codes "") ≡ bad 1 code.Head
-unfolding on_literals
-nothing = refl
+abbrev pub fault_in : {A : Type 0} → Result A BadLine → Option (ℕ × Code)
+fault_in (Ok read) = None
+fault_in (Err bad) = Some (bad.line, bad.code)
 
-pub a_seed_of_2_to_60 : reading_of (codes "journal 1 1152921504606846976\n") ≡ bad 1 code.Head
-unfolding on_literals
-a_seed_of_2_to_60 = refl
+-- the number of the first bad line of a text and its code
+abbrev pub fault_of : List ℕ → Option (ℕ × Code)
+fault_of text = fault_in (reading_of text)
 
-pub another_version : reading_of (codes "journal 2 7\n") ≡ bad 1 code.Head
+-- another version, a seed that is absent, empty or too great, a carriage return, two spaces; also without a line feed
+pub bad_heads : map fault_of (
+    codes "" ∷ codes "journal 2 7\n" ∷ codes "journal 1\n" ∷ codes "journal 1 \n" ∷ codes "journal 1 1152921504606846976\n" ∷ codes "journal 1 07\n"
+    ∷ codes "journal 1 7\r\n" ∷ codes "journal  1 7\n" ∷ codes "script 1 7\n" ∷ codes "journal 1 x" ∷ []
+    ) ≡ replicate 10 (Some (1, code.Head))
 unfolding on_literals
-another_version = refl
+bad_heads = refl
 
-pub no_seed : reading_of (codes "journal 1\n") ≡ bad 1 code.Head
+pub no_last_line_feed : map fault_of (codes "journal 1 7" ∷ codes "journal 1 7\nspawned 1 1 up" ∷ codes "journal 1 7\n\n" ∷ []) ≡ Some (1, code.Cut) ∷ Some (2, code.Cut) ∷ Some (2, code.Op) ∷ []
 unfolding on_literals
-no_seed = refl
+no_last_line_feed = refl
 
-pub an_empty_seed : reading_of (codes "journal 1 \n") ≡ bad 1 code.Head
+pub no_texts : map fault_of ((128 ∷ []) ∷ (codes "journal 1 7\nstop " ++ 255 ∷ codes "\n") ∷ (codes "journal 1 7\n" ++ 192 ∷ 128 ∷ []) ∷ []) ≡ Some (1, code.Utf8) ∷ Some (2, code.Utf8) ∷ Some (2, code.Utf8) ∷ []
 unfolding on_literals
-an_empty_seed = refl
+no_texts = refl
 
-pub a_carriage_return_in_the_head : reading_of (codes "journal 1 7\r\n") ≡ bad 1 code.Head
-unfolding on_literals
-a_carriage_return_in_the_head = refl
-
-pub two_spaces_in_the_head : reading_of (codes "journal  1 7\n") ≡ bad 1 code.Head
-unfolding on_literals
-two_spaces_in_the_head = refl
-
-pub a_bad_head_without_line_feed : reading_of (codes "journal 1 x") ≡ bad 1 code.Head
-unfolding on_literals
-a_bad_head_without_line_feed = refl
-
-pub a_head_without_line_feed : reading_of (codes "journal 1 7") ≡ bad 1 code.Cut
-unfolding on_literals
-a_head_without_line_feed = refl
-
-pub a_last_line_without_line_feed : reading_of (codes "journal 1 7\nspawned 1 1 up") ≡ bad 2 code.Cut
-unfolding on_literals
-a_last_line_without_line_feed = refl
-
-pub another_first_word : reading_of (codes "journal 1 7\nstop x\n") ≡ bad 2 code.Op
-unfolding on_literals
-another_first_word = refl
-
-pub an_empty_line : reading_of (codes "journal 1 7\n\n") ≡ bad 2 code.Op
-unfolding on_literals
-an_empty_line = refl
-
-pub no_call : reading_of (codes "journal 1 7\ncall\n") ≡ bad 2 code.Op
-unfolding on_literals
-no_call = refl
-
-pub a_lane_alone : reading_of (codes "journal 1 7\ncall 0\n") ≡ bad 2 code.Op
-unfolding on_literals
-a_lane_alone = refl
-
-pub another_call_before_a_bad_lane : reading_of (codes "journal 1 7\ncall 0 plain t r {}\n") ≡ bad 2 code.Op
-unfolding on_literals
-another_call_before_a_bad_lane = refl
-
-pub no_budget : reading_of (codes "journal 1 7\ncall 0 worker W\n") ≡ bad 2 code.Words
-unfolding on_literals
-no_budget = refl
-
-pub a_word_too_many : reading_of (codes "journal 1 7\ncall 1 worker w 0 \n") ≡ bad 2 code.Words
-unfolding on_literals
-a_word_too_many = refl
-
-pub no_options : reading_of (codes "journal 1 7\ncall 1 router r w\n") ≡ bad 2 code.Words
-unfolding on_literals
-no_options = refl
-
-pub no_event : reading_of (codes "journal 1 7\nspawned 1 1\n") ≡ bad 2 code.Words
-unfolding on_literals
-no_event = refl
-
-pub no_bytes : reading_of (codes "journal 1 7\nchunk 1 1\n") ≡ bad 2 code.Words
-unfolding on_literals
-no_bytes = refl
-
-pub a_lane_of_0 : reading_of (codes "journal 1 7\ncall 0 worker W 0\n") ≡ bad 2 code.Number
-unfolding on_literals
-a_lane_of_0 = refl
-
-pub a_lane_of_65 : reading_of (codes "journal 1 7\ncall 65 worker w 0\n") ≡ bad 2 code.Number
-unfolding on_literals
-a_lane_of_65 = refl
-
-pub a_leading_zero : reading_of (codes "journal 1 7\ncall 01 worker w 0\n") ≡ bad 2 code.Number
-unfolding on_literals
-a_leading_zero = refl
-
-pub a_plus : reading_of (codes "journal 1 7\ncall +1 worker w 0\n") ≡ bad 2 code.Number
-unfolding on_literals
-a_plus = refl
-
-pub a_budget_of_1001 : reading_of (codes "journal 1 7\ncall 1 worker w 1001\n") ≡ bad 2 code.Number
-unfolding on_literals
-a_budget_of_1001 = refl
-
-pub an_empty_budget : reading_of (codes "journal 1 7\ncall 1 worker w \n") ≡ bad 2 code.Number
-unfolding on_literals
-an_empty_budget = refl
-
-pub a_generation_of_1002 : reading_of (codes "journal 1 7\nspawned 1 1002 x\n") ≡ bad 2 code.Number
-unfolding on_literals
-a_generation_of_1002 = refl
-
-pub a_long_number : reading_of (codes "journal 1 7\nspawned 99999999999999999999999999999999 1 up\n") ≡ bad 2 code.Number
-unfolding on_literals
-a_long_number = refl
-
-pub a_capital_before_a_bad_budget : reading_of (codes "journal 1 7\ncall 1 worker W x\n") ≡ bad 2 code.Name
-unfolding on_literals
-a_capital_before_a_bad_budget = refl
-
-pub an_empty_name_before_no_json : reading_of (codes "journal 1 7\ncall 1 router r  x\n") ≡ bad 2 code.Name
-unfolding on_literals
-an_empty_name_before_no_json = refl
-
-pub another_event : reading_of (codes "journal 1 7\nspawned 1 1 gone\n") ≡ bad 2 code.Event
-unfolding on_literals
-another_event = refl
-
-pub empty_options : reading_of (codes "journal 1 7\ncall 1 router r w \n") ≡ bad 2 code.Json
-unfolding on_literals
-empty_options = refl
-
-pub no_json : reading_of (codes "journal 1 7\ncall 1 router r w {} {}\n") ≡ bad 2 code.Json
-unfolding on_literals
-no_json = refl
-
-pub an_odd_number_of_digits : reading_of (codes "journal 1 7\nchunk 1 1 abc\n") ≡ bad 2 code.Hex
-unfolding on_literals
-an_odd_number_of_digits = refl
-
-pub an_empty_chunk : reading_of (codes "journal 1 7\nchunk 1 1 \n") ≡ bad 2 code.Hex
-unfolding on_literals
-an_empty_chunk = refl
-
-pub no_digit : reading_of (codes "journal 1 7\nchunk 1 1 0g\n") ≡ bad 2 code.Hex
-unfolding on_literals
-no_digit = refl
-
-pub the_first_bad_line : reading_of (codes "journal 1 7\nspawned 1 1 up\nchunk 1 0 aa\nstop\n") ≡ bad 3 code.Number
+pub the_first_bad_line : fault_of (codes "journal 1 7\nspawned 1 1 up\nchunk 1 0 aa\nstop\n") ≡ Some (3, code.Number)
 unfolding on_literals
 the_first_bad_line = refl
 
-pub a_line_that_is_no_text : reading_of (codes "journal 1 7\nstop " ++ 255 ∷ codes "\n") ≡ bad 2 code.Utf8
-unfolding on_literals
-a_line_that_is_no_text = refl
+-- ---- lines
 
-pub a_head_that_is_no_text : reading_of (128 ∷ []) ≡ bad 1 code.Utf8
-unfolding on_literals
-a_head_that_is_no_text = refl
+abbrev pub code_in : Result Entry Code → Option Code
+code_in (Ok e) = None
+code_in (Err c) = Some c
 
-pub a_last_line_that_is_no_text : reading_of (codes "journal 1 7\n" ++ 192 ∷ 128 ∷ []) ≡ bad 2 code.Utf8
-unfolding on_literals
-a_last_line_that_is_no_text = refl
+abbrev pub codes_of : List (List ℕ) → List (Option Code)
+codes_of lines = map (λ line. code_in (entry_of_line line)) lines
 
--- what can be written
-abbrev pub an_entry_of_each_kind : List Entry
-an_entry_of_each_kind =
+-- no line begins so, or none of a call; before a bad lane and a wrong number of words
+pub no_such_line : codes_of (
+    codes "" ∷ codes "stop" ∷ codes "stop\r" ∷ codes "gone 1 1 end" ∷ codes "lane" ∷ codes "call" ∷ codes "call 0" ∷ codes "call 0 await w running 1"
+    ∷ codes "call 0 piperouter n p r" ∷ codes "call 0 together 2" ∷ codes "call 65 foo" ∷ []
+    ) ≡ replicate 11 (Some code.Op)
+unfolding on_literals
+no_such_line = refl
+
+-- a wrong number of words, before a bad one
+pub wrong_numbers_of_words : codes_of (
+    codes "await" ∷ codes "await 0" ∷ codes "await 0 w running" ∷ codes "await 1 w running 1 " ∷ codes "call 0 worker W" ∷ codes "call 1 worker w 0 "
+    ∷ codes "call 1 router r w" ∷ codes "call 1 consume c t p" ∷ codes "call 1 pause" ∷ codes "spawned 0 1" ∷ codes "chunk 1 1" ∷ []
+    ) ≡ replicate 11 (Some code.Words)
+unfolding on_literals
+wrong_numbers_of_words = refl
+
+-- the first bad word, of a line with a lane the lane's number
+pub bad_numbers : codes_of (
+    codes "call 0 worker W 0" ∷ codes "call 65 worker w 0" ∷ codes "call 01 pause P" ∷ codes "call +1 send p x" ∷ codes "await 0 W x 0" ∷ codes "await 1 w open 0"
+    ∷ codes "call 1 worker w 1001" ∷ codes "call 1 worker w " ∷ codes "spawned 1 1002 x" ∷ codes "chunk 65 1 x" ∷ codes "spawned 99999999999999999999999999999999 1 up" ∷ []
+    ) ≡ replicate 11 (Some code.Number)
+unfolding on_literals
+bad_numbers = refl
+
+pub bad_names : codes_of (codes "call 1 worker W x" ∷ codes "call 1 router r  x" ∷ codes "call 1 close " ∷ codes "await 1 W x 0" ∷ codes "call 1 send P x" ∷ []) ≡ replicate 5 (Some code.Name)
+unfolding on_literals
+bad_names = refl
+
+pub other_events : codes_of (codes "await 1 w gone 0" ∷ codes "spawned 1 1 gone" ∷ codes "spawned 1 1 up\r" ∷ []) ≡ replicate 3 (Some code.Event)
+unfolding on_literals
+other_events = refl
+
+pub no_json : codes_of (codes "call 1 router r w " ∷ codes "call 1 router r w {} {}" ∷ codes "call 1 connect t {" ∷ []) ≡ replicate 3 (Some code.Json)
+unfolding on_literals
+no_json = refl
+
+pub no_bytes : codes_of (codes "chunk 1 1 abc" ∷ codes "chunk 1 1 " ∷ codes "chunk 1 1 0g" ∷ codes "call 1 send p " ∷ codes "call 1 send p 0" ∷ []) ≡ replicate 5 (Some code.Hex)
+unfolding on_literals
+no_bytes = refl
+
+-- ---- what can be written
+
+abbrev pub some_entries : List Entry
+some_entries =
     entry.Call 1 (op.Worker (codes "w") 1000)
-    ∷ entry.Call 64 (op.Router (codes "r") (codes "w") (codes "{ }"))
+    ∷ entry.Call 64 (op.Consume (codes "c") (codes "t") (codes "p") (codes "{ }"))
+    ∷ entry.Await 1 (codes "t") event.Tuple 1
     ∷ entry.Spawned (key 64 1001) false
     ∷ entry.Chunk (key 1 1) (255 ∷ []) ∷ []
 
-pub every_kind : are_well_formed an_entry_of_each_kind ≡ true
+pub each_has_a_line : are_well_formed some_entries ≡ true
 unfolding on_literals
-every_kind = refl
+each_has_a_line = refl
 
-pub no_line_for_lane_0 : is_well_formed (entry.Call 0 (op.Worker (codes "w") 0)) ≡ false
+pub written : journal_text 7 some_entries ≡ codes "journal 1 7\ncall 1 worker w 1000\ncall 64 consume c t p { }\nawait 1 t tuple 1\nspawned 64 1001 failed\nchunk 1 1 ff\n"
 unfolding on_literals
-no_line_for_lane_0 = refl
+written = refl
 
-pub no_line_for_a_budget_of_1001 : is_well_formed (entry.Call 1 (op.Worker (codes "w") 1001)) ≡ false
+pub its_size : journal_size 7 some_entries ≡ 113
 unfolding on_literals
-no_line_for_a_budget_of_1001 = refl
+its_size = refl
 
-pub no_line_for_a_name_with_a_space : is_well_formed (entry.Call 1 (op.Worker (codes "a b") 0)) ≡ false
+-- a lane, a budget, a name, options in two lines, a count, a slot, no bytes, a byte; and what isn't read yet
+pub no_lines : map is_well_formed (
+    entry.Call 0 (op.Pause (codes "p")) ∷ entry.Call 1 (op.Worker (codes "w") 1001) ∷ entry.Call 1 (op.Worker (codes "a b") 0)
+    ∷ entry.Call 1 (op.Router (codes "r") (codes "w") (codes "{\n}")) ∷ entry.Await 1 (codes "w") event.Running 0 ∷ entry.Spawned (key 65 1) true
+    ∷ entry.Chunk (key 1 1) [] ∷ entry.Chunk (key 1 1) (256 ∷ [])
+    ∷ entry.Call 1 (op.PipeRouter (codes "n") (codes "p") (codes "r")) ∷ entry.Gone (key 1 1) cause.End ∷ entry.Stop ∷ []
+    ) ≡ replicate 11 false
 unfolding on_literals
-no_line_for_a_name_with_a_space = refl
+no_lines = refl
 
-pub no_line_for_options_in_two_lines : is_well_formed (entry.Call 1 (op.Router (codes "r") (codes "w") (codes "{\n}"))) ≡ false
+-- they have a written form all the same
+pub ends : map entry_line (entry.Gone (key 2 3) cause.Write ∷ entry.Stop ∷ []) ≡ codes "gone 2 3 write\n" ∷ codes "stop\n" ∷ []
 unfolding on_literals
-no_line_for_options_in_two_lines = refl
+ends = refl
 
-pub no_line_for_slot_65 : is_well_formed (entry.Spawned (key 65 1) true) ≡ false
-unfolding on_literals
-no_line_for_slot_65 = refl
-
-pub no_line_for_a_chunk_of_nothing : is_well_formed (entry.Chunk (key 1 1) []) ≡ false
-unfolding on_literals
-no_line_for_a_chunk_of_nothing = refl
-
-pub no_line_for_a_byte_of_256 : is_well_formed (entry.Chunk (key 1 1) (256 ∷ [])) ≡ false
-unfolding on_literals
-no_line_for_a_byte_of_256 = refl
-
-pub each_kind_written : journal_text 7 an_entry_of_each_kind ≡ codes "journal 1 7\ncall 1 worker w 1000\ncall 64 router r w { }\nspawned 64 1001 failed\nchunk 1 1 ff\n"
-unfolding on_literals
-each_kind_written = refl
-
-pub size_of_each_kind : journal_size 7 an_entry_of_each_kind ≡ 92
-unfolding on_literals
-size_of_each_kind = refl
-
--- of a text of both cases nothing but the digits of chunks changes
-pub digits_alone_in_lower_case : in_lower_case (codes "journal 1 0\ncall 1 router r w {\"A\": \"B\"}\nchunk 2 3 00fFAa\n") ≡ codes "journal 1 0\ncall 1 router r w {\"A\": \"B\"}\nchunk 2 3 00ffaa\n"
+-- of a text of both cases nothing but the digits of bytes changes
+pub digits_alone_in_lower_case : in_lower_case (codes "journal 1 0\ncall 1 router r w {\"A\": \"B\"}\ncall 1 send p FfAa\nchunk 2 3 00fFAa\n") ≡ codes "journal 1 0\ncall 1 router r w {\"A\": \"B\"}\ncall 1 send p ffaa\nchunk 2 3 00ffaa\n"
 unfolding on_literals
 digits_alone_in_lower_case = refl

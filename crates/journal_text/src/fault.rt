@@ -1,7 +1,7 @@
 ghost use Rattle.std.specs.Prelude.{◌≡◌};
 
-use ms_base::{Code, NoMemory};
-use std::alloc::{AllocError, AllocFailed};
+use ms_base::Code;
+use std::alloc::AllocFailed;
 use thiserror::Error;
 
 /// Why a text is not read as a journal.
@@ -12,33 +12,6 @@ pub enum JournalFault {
     BadJournal { line: u32, code: Code },
     #[error("out of memory")]
     NoMemory,
-}
-
-/// Why a line is not read.
-#[derive(Clone, Copy)]
-pub(crate) enum WordFault {
-    Bad(Code),
-    NoMemory,
-}
-
-impl From<Code> for WordFault {
-    ghost use Rattle.journal_text.specs.declared.fault.WordFault.TheVariants as fault;
-
-    ghost from_gives = { λ code wrong. wrong ≡ fault.Bad code };
-
-    fn from(code: Code) -> WordFault {
-        WordFault::Bad(code)
-    }
-}
-
-impl From<NoMemory> for WordFault {
-    ghost use Rattle.journal_text.specs.declared.fault.WordFault.TheVariants as fault;
-
-    ghost from_gives = { λ _ wrong. wrong ≡ fault.NoMemory };
-
-    fn from(_refused: NoMemory) -> WordFault {
-        WordFault::NoMemory
-    }
 }
 
 impl<T: Drop> From<AllocFailed<T>> for JournalFault {

@@ -4,6 +4,7 @@
 mod fault;
 mod laws;
 mod read;
+mod size;
 mod write;
 
 pub use fault::JournalFault;
@@ -13,7 +14,8 @@ pub use laws::{
     what_reads_is_written_but_for_case, written_journals_read_back,
 };
 pub use read::read_journal;
-pub use write::{MAX_JOURNAL, entry_size, head_size, write_journal};
+pub use size::{MAX_JOURNAL, entry_size, head_size};
+pub use write::write_journal;
 
 #[cfg(test)]
 mod tests;

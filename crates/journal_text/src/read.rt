@@ -1,18 +1,17 @@
-ghost use Rattle.std.specs.Prelude.{◌≡◌, ◌<◌, ◌==◌, ◌^◌, [], ◌∷◌, length, position, true, Ok, IfOk, IfErr, IfSome};
-ghost use Rattle.std.specs.Option.{option_copied};
-ghost use Rattle.journal_text.specs.Reading.{lines, lines_behind, reading_of, entries_of, with_front, cut};
+ghost use Rattle.std.specs.Prelude.{◌≡◌, ◌<◌, ◌^◌, [], ◌∷◌, length, true, Ok, IfOk, IfErr};
+ghost use Rattle.journal_text.specs.Reading.{reading_of, entries_of, with_front, cut};
 ghost use Rattle.journal_text.specs.WellFormed.{are_well_formed};
 ghost use Rattle.journal_text.specs.Written.{journal_size};
 ghost use Rattle.journal_text.specs.declared.fault.JournalFault.TheVariants as fault;
-ghost use Rattle.ms_base.specs.Words.{line_feed};
 ghost use Rattle.journal_text.specs.Gives.{Tells, told_line};
+ghost use Rattle.script_text.specs.Words.{lines};
 
 mod line;
-mod words;
 
-use crate::fault::{JournalFault, WordFault};
-use line::{read_entry, read_head};
+use crate::fault::JournalFault;
+use line::read_entry;
 use ms_base::{Code, Entry};
+use script_text::{WordFault, first_line, read_head};
 use std::alloc::Global;
 
 /// The seed and the entries of the text of a journal.
@@ -29,7 +28,7 @@ pub fn read_journal(alloc: Global, text: &[u8]) -> Result<(u64, Vec<Entry>), Jou
     ensures size { IfOk result (λ read. journal_size read.0 read.1.items ≡ length text.now) }
 {
     let (head, rest) = first_line(text);
-    let seed = match read_head(head) {
+    let seed = match read_head("journal", head) {
         Ok(seed) => seed,
         Err(code) => return Err(bad_line(1, code)),
     };
@@ -76,24 +75,6 @@ fn end_of_text(entries: Vec<Entry>, number: usize, last: &[u8]) -> Result<Vec<En
     } else {
         Err(bad_line(number, cut_code(last)))
     }
-}
-
-// The first line, and what stands behind its line feed, where it has one.
-fn first_line(text: &[u8]) -> (&[u8], Option<&[u8]>)
-    ensures pieces { lines text.now ≡ result.0.now ∷ lines_behind (option_copied result.1) }
-    ensures shorter { IfSome (option_copied result.1) (λ rest. length rest < length text.now) }
-{
-    match line_end(text) {
-        Some(end) => (&text[..end], Some(&text[end + 1..])),
-        None => (text, None),
-    }
-}
-
-// The place of the first line feed.
-fn line_end(text: &[u8]) -> Option<usize>
-    ensures { result ≡ position (λ b. b == line_feed) text.now }
-{
-    text.iter().position(|byte| *byte == b'\n')
 }
 
 // What is wrong with a last line that has no line feed.

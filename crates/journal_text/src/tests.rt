@@ -1,89 +1,94 @@
 use crate::{JournalFault, entry_size, head_size, read_journal, write_journal};
-use ms_base::{Bytes, Code, Entry, Name, Op, Text, WorkerKey};
+use ms_base::{Bytes, Code, Entry, Event, GoneCause, Name, Op, Text, WorkerKey};
 use std::alloc::Global;
 use std::test::Fail;
 
-const ALL_LINES: &[u8] =
-    b"journal 1 1152921504606846975\ncall 1 worker w 0\ncall 64 router r w {\"mediaCodecs\": []} \nspawned 1 1 up\nspawned 64 1001 failed\nchunk 2 3 00fF\n";
+// Each line that is read, as it is written.
+const ALL_LINES: &[u8] = b"journal 1 1152921504606846975
+call 1 worker w 1000
+call 64 router r w {\"mediaCodecs\": []} 
+call 2 plain t r {}
+call 2 pipe k r {}
+call 2 direct d r
+call 2 connect t {\"port\":1}
+call 2 produce p d {}
+call 2 consume c t p {}
+call 2 pause p
+call 2 resume p
+call 2 close c
+call 2 canconsume p [1, 2]
+call 2 send p 806f00
+await 1 w running 1
+await 1 r open 1000000000
+await 1 r closed 2
+await 1 p paused 3
+await 1 p resumed 4
+await 1 t tuple 5
+await 1 c rtp 6
+spawned 1 1 up
+spawned 64 1001 failed
+chunk 2 3 00ff
+";
+
+// A text that was read, written again.
+fn written_again(alloc: Global, text: &[u8]) -> Result<Bytes, Fail> {
+    let (seed, entries) = read_journal(alloc, text)?;
+    let mut again = Bytes::new(alloc);
+    write_journal(alloc, seed, entries.as_slice(), &mut again)?;
+    Ok(again)
+}
 
 #[test]
-fn every_line_is_read(rt: HostRuntime) -> Result<(), Fail> {
-    let (seed, entries) = read_journal(rt.alloc(), ALL_LINES)?;
-    assert!(rt; seed == 1_152_921_504_606_846_975);
-    assert!(rt; entries.len() == 5);
-    for (place, entry) in entries.iter().enumerate() {
-        let fits = match (place, entry) {
-            (
-                0,
-                Entry::Call {
-                    lane: 1,
-                    op: Op::Worker { name, budget: 0 },
-                },
-            ) => name.as_slice() == b"w".as_slice(),
-            (
-                1,
-                Entry::Call {
-                    lane: 64,
-                    op: Op::Router {
-                        name,
-                        worker,
-                        options,
-                    },
-                },
-            ) => {
-                name.as_slice() == b"r".as_slice()
-                    && worker.as_slice() == b"w".as_slice()
-                    && options.as_str() == "{\"mediaCodecs\": []} "
-            }
-            (2, Entry::Spawned { worker, up: true }) => worker.slot == 1 && worker.generation == 1,
-            (3, Entry::Spawned { worker, up: false }) => {
-                worker.slot == 64 && worker.generation == 1001
-            }
-            (4, Entry::Chunk { worker, bytes }) => {
-                worker.slot == 2
-                    && worker.generation == 3
-                    && bytes.as_slice() == b"\x00\xff".as_slice()
-            }
-            _ => false,
-        };
-        assert!(rt; fits);
-    }
+fn every_line_is_read_and_written(rt: HostRuntime) -> Result<(), Fail> {
+    let again = written_again(rt.alloc(), ALL_LINES)?;
+    assert_eq!(rt; again.as_slice(), ALL_LINES);
     Ok(())
 }
 
-// The first line that is wrong, and its code.
-const BAD: [(&[u8], u32, Code); 28] = [
-    (b"", 1, Code::Head),
+#[test]
+fn digits_are_written_in_lower_case(rt: HostRuntime) -> Result<(), Fail> {
+    let again = written_again(
+        rt.alloc(),
+        b"journal 1 0\ncall 1 canconsume p \"A\"\ncall 1 send p fFAa\nchunk 2 3 00fFAa\n",
+    )?;
+    assert_eq!(rt;
+        again.as_slice(),
+        b"journal 1 0\ncall 1 canconsume p \"A\"\ncall 1 send p ffaa\nchunk 2 3 00ffaa\n".as_slice()
+    );
+    Ok(())
+}
+
+// Texts with the number of their first bad line and its code.
+const BAD: [(&[u8], u32, Code); 30] = [
     (b"\x80", 1, Code::Utf8),
+    (b"journal 1 7\nspawned \xff", 2, Code::Utf8),
+    (b"", 1, Code::Head),
     (b"journal 1 1152921504606846976\n", 1, Code::Head),
-    (b"journal 1 07\n", 1, Code::Head),
     (b"journal 1 7\r\n", 1, Code::Head),
+    (b"script 1 7\n", 1, Code::Head),
     (b"journal 1 x", 1, Code::Head),
     (b"journal 1 7", 1, Code::Cut),
     (b"journal 1 7\nspawned 1 1 up", 2, Code::Cut),
-    (b"journal 1 7\nspawned \xff", 2, Code::Utf8),
-    (b"journal 1 7\nstop x\n", 2, Code::Op),
     (b"journal 1 7\n\n", 2, Code::Op),
-    (b"journal 1 7\nstop\r\n", 2, Code::Op),
+    (b"journal 1 7\nstop\n", 2, Code::Op),
+    (b"journal 1 7\ngone 1 1 end\n", 2, Code::Op),
     (b"journal 1 7\ncall 0\n", 2, Code::Op),
-    (b"journal 1 7\ncall 0 plain t r {}\n", 2, Code::Op),
+    (b"journal 1 7\ncall 0 piperouter n p r\n", 2, Code::Op),
+    (b"journal 1 7\ncall 1 await w running 1\n", 2, Code::Op),
     (b"journal 1 7\ncall 0 worker W\n", 2, Code::Words),
-    (b"journal 1 7\ncall 1 worker w 0 \n", 2, Code::Words),
+    (b"journal 1 7\nawait 0\n", 2, Code::Words),
     (b"journal 1 7\nspawned 0 1\n", 2, Code::Words),
-    (b"journal 1 7\ncall 01 worker W 0\n", 2, Code::Number),
-    (b"journal 1 7\ncall 65 worker w 0\n", 2, Code::Number),
     (b"journal 1 7\ncall 1 worker W x\n", 2, Code::Name),
-    (b"journal 1 7\nspawned 1 0 up\n", 2, Code::Number),
+    (b"journal 1 7\nawait 1 W x 0\n", 2, Code::Name),
+    (b"journal 1 7\ncall 65 pause P\n", 2, Code::Number),
+    (b"journal 1 7\nawait 0 W x 0\n", 2, Code::Number),
+    (b"journal 1 7\nawait 1 w open 0\n", 2, Code::Number),
     (b"journal 1 7\nspawned 1 1002 x\n", 2, Code::Number),
-    (
-        b"journal 1 7\nspawned 99999999999999999999999999 1 up\n",
-        2,
-        Code::Number,
-    ),
+    (b"journal 1 7\nawait 1 w gone 0\n", 2, Code::Event),
     (b"journal 1 7\nspawned 1 1 gone\n", 2, Code::Event),
     (b"journal 1 7\ncall 1 router r w \n", 2, Code::Json),
-    (b"journal 1 7\ncall 1 router r w {} {}\n", 2, Code::Json),
-    (b"journal 1 7\nchunk 1 1 abc\n", 2, Code::Hex),
+    (b"journal 1 7\ncall 1 send p 0\n", 2, Code::Hex),
+    (b"journal 1 7\nchunk 1 1 \n", 2, Code::Hex),
     (
         b"journal 1 7\nspawned 1 1 up\nchunk 1 1 0g\nstop\n",
         3,
@@ -104,10 +109,26 @@ fn the_first_bad_line_is_told(rt: HostRuntime) {
     }
 }
 
-const FIRST: WorkerKey = WorkerKey {
-    slot: 1,
-    generation: 1,
-};
+// Why a chunk of so many bytes is refused.
+fn refused_chunk(alloc: Global, len: usize) -> Result<Option<JournalFault>, Fail> {
+    let mut text = Bytes::from_slice(alloc, b"journal 1 7\nchunk 1 1 ")?;
+    for _ in 0..len {
+        text.extend_from_slice(b"00")?;
+    }
+    text.push(b'\n')?;
+    Ok(refusal(alloc, text.as_slice()))
+}
+
+#[test]
+fn a_chunk_has_at_most_65536_bytes(rt: HostRuntime) -> Result<(), Fail> {
+    let bad = JournalFault::BadJournal {
+        line: 2,
+        code: Code::Hex,
+    };
+    assert_eq!(rt; refused_chunk(rt.alloc(), 65_536)?, None);
+    assert_eq!(rt; refused_chunk(rt.alloc(), 65_537)?, Some(bad));
+    Ok(())
+}
 
 const FAR: WorkerKey = WorkerKey {
     slot: 10,
@@ -116,51 +137,47 @@ const FAR: WorkerKey = WorkerKey {
 
 // One entry of each form.
 fn entry_of_form(alloc: Global, form: usize) -> Result<Entry, Fail> {
-    match form {
-        0 => Ok(Entry::Call {
-            lane: 1,
-            op: Op::Worker {
-                name: Name::read(alloc, b"w")?,
-                budget: 0,
-            },
-        }),
-        1 => Ok(Entry::Call {
+    let name = Name::read(alloc, b"r_1")?;
+    Ok(match form {
+        0 => Entry::Call {
             lane: u32::MAX,
-            op: Op::Router {
-                name: Name::read(alloc, b"r_1")?,
-                worker: Name::read(alloc, b"w")?,
-                options: Text::from_str(alloc, "{\"mediaCodecs\":[]}")?,
+            op: Op::CanConsume {
+                producer: name,
+                caps: Text::from_str(alloc, "{\"codecs\":[]}")?,
             },
-        }),
-        2 => Ok(Entry::Spawned {
-            worker: FIRST,
-            up: true,
-        }),
-        3 => Ok(Entry::Spawned {
+        },
+        1 => Entry::Await {
+            lane: 1,
+            name,
+            event: Event::Opened,
+            count: 12,
+        },
+        2 => Entry::Spawned {
             worker: FAR,
             up: false,
-        }),
-        4 => Ok(Entry::Chunk {
-            worker: FIRST,
-            bytes: Bytes::new(alloc),
-        }),
-        _ => Ok(Entry::Chunk {
+        },
+        3 => Entry::Chunk {
             worker: FAR,
             bytes: Bytes::from_slice(alloc, b"\x00\x7b\xff")?,
-        }),
-    }
+        },
+        4 => Entry::Gone {
+            worker: FAR,
+            cause: GoneCause::Write,
+        },
+        _ => Entry::Stop,
+    })
 }
 
 // The length of the line of each.
-const SIZES: [u64; 6] = [18, 48, 15, 29, 11, 27];
+const SIZES: [u64; 6] = [45, 20, 29, 27, 25, 5];
 
 const JOURNAL: &[u8] = b"journal 1 7
-call 1 worker w 0
-call 4294967295 router r_1 w {\"mediaCodecs\":[]}
-spawned 1 1 up
+call 4294967295 canconsume r_1 {\"codecs\":[]}
+await 1 r_1 open 12
 spawned 10 4294967295 failed
-chunk 1 1 
 chunk 10 4294967295 007bff
+gone 10 4294967295 write
+stop
 ";
 
 #[test]
@@ -175,26 +192,5 @@ fn writes_a_journal_and_tells_its_sizes(rt: HostRuntime) -> Result<(), Fail> {
     let mut text = Bytes::new(rt.alloc());
     write_journal(rt.alloc(), 7, entries.as_slice(), &mut text)?;
     assert_eq!(rt; text.as_slice(), JOURNAL);
-    Ok(())
-}
-
-// A text that was read, written again.
-fn written_again(alloc: Global, text: &[u8]) -> Result<Bytes, Fail> {
-    let (seed, entries) = read_journal(alloc, text)?;
-    let mut again = Bytes::new(alloc);
-    write_journal(alloc, seed, entries.as_slice(), &mut again)?;
-    Ok(again)
-}
-
-#[test]
-fn a_text_is_written_again_with_digits_in_lower_case(rt: HostRuntime) -> Result<(), Fail> {
-    let again = written_again(
-        rt.alloc(),
-        b"journal 1 0\ncall 1 router r w {\"A\": \"B\"} \nchunk 2 3 00fFAa\n",
-    )?;
-    assert_eq!(rt;
-        again.as_slice(),
-        b"journal 1 0\ncall 1 router r w {\"A\": \"B\"} \nchunk 2 3 00ffaa\n".as_slice()
-    );
     Ok(())
 }

@@ -31,4 +31,6 @@ pub enum SlotLook {
     Want(u32),
     /// A worker runs, to which so many bytes have been sent.
     Live { generation: u32, sent: u64 },
+    /// No worker will be started any more. `died` says that the last one died.
+    Over { died: bool },
 }

@@ -2,59 +2,43 @@ ghost use Rattle.std.specs.Prelude.{◌≡◌, IfOk};
 
 use crate::bytes::Bytes;
 use crate::fault::NoMemory;
-use crate::keys::WorkerKey;
+use crate::keys::{Event, GoneCause, WorkerKey};
 use crate::name::Name;
-use crate::text::Text;
+use crate::op::Op;
 use std::alloc::Global;
-
-/// What a lane asks of the host.
-#[derive(Debug, Drop, PartialEq, Eq)]
-pub enum Op {
-    /// Make a Worker that may be restarted `budget` times.
-    Worker {
-        name: Name,
-        budget: u32,
-    },
-    /// Make a Router on a Worker. The options are a JSON text.
-    Router {
-        name: Name,
-        worker: Name,
-        options: Text,
-    },
-}
 
 /// One entry of the journal: all that the host ever hears.
 #[derive(Debug, Drop, PartialEq, Eq)]
 pub enum Entry {
     /// A lane makes a call.
-    Call { lane: u32, op: Op },
+    Call {
+        lane: u32,
+        op: Op,
+    },
+    /// A lane waits for `count` notes of this event for objects of this name.
+    Await {
+        lane: u32,
+        name: Name,
+        event: Event,
+        count: u32,
+    },
     /// A start of a worker has been tried: it is up, or it failed.
-    Spawned { worker: WorkerKey, up: bool },
+    Spawned {
+        worker: WorkerKey,
+        up: bool,
+    },
     /// Bytes of a worker's channel, as they were read.
-    Chunk { worker: WorkerKey, bytes: Bytes },
-}
-
-impl Op {
-    /// A copy of the value.
-    pub fn copy(&self, alloc: Global) -> Result<Op, NoMemory>
-        ensures { IfOk result (λ op. op ≡ self.now) }
-    {
-        match self {
-            Op::Worker { name, budget } => Ok(Op::Worker {
-                name: name.copy(alloc)?,
-                budget: *budget,
-            }),
-            Op::Router {
-                name,
-                worker,
-                options,
-            } => Ok(Op::Router {
-                name: name.copy(alloc)?,
-                worker: worker.copy(alloc)?,
-                options: options.copy(alloc)?,
-            }),
-        }
-    }
+    Chunk {
+        worker: WorkerKey,
+        bytes: Bytes,
+    },
+    /// A worker's channel has come to its end.
+    Gone {
+        worker: WorkerKey,
+        cause: GoneCause,
+    },
+    /// The run comes to its end.
+    Stop,
 }
 
 impl Entry {
@@ -62,19 +46,35 @@ impl Entry {
     pub fn copy(&self, alloc: Global) -> Result<Entry, NoMemory>
         ensures { IfOk result (λ entry. entry ≡ self.now) }
     {
-        match self {
-            Entry::Call { lane, op } => Ok(Entry::Call {
+        Ok(match self {
+            Entry::Call { lane, op } => Entry::Call {
                 lane: *lane,
                 op: op.copy(alloc)?,
-            }),
-            Entry::Spawned { worker, up } => Ok(Entry::Spawned {
+            },
+            Entry::Await {
+                lane,
+                name,
+                event,
+                count,
+            } => Entry::Await {
+                lane: *lane,
+                name: name.copy(alloc)?,
+                event: *event,
+                count: *count,
+            },
+            Entry::Spawned { worker, up } => Entry::Spawned {
                 worker: *worker,
                 up: *up,
-            }),
-            Entry::Chunk { worker, bytes } => Ok(Entry::Chunk {
+            },
+            Entry::Chunk { worker, bytes } => Entry::Chunk {
                 worker: *worker,
                 bytes: bytes.copy(alloc)?,
-            }),
-        }
+            },
+            Entry::Gone { worker, cause } => Entry::Gone {
+                worker: *worker,
+                cause: *cause,
+            },
+            Entry::Stop => Entry::Stop,
+        })
     }
 }

@@ -36,6 +36,36 @@ pub enum Reason {
     PipeClose,
 }
 
+/// Why a worker's channel has come to its end.
+#[derive(Clone, Copy, Debug, PartialEq, Eq)]
+pub enum GoneCause {
+    /// The worker closed it.
+    End,
+    /// Reading from it failed.
+    Read,
+    /// Writing to it failed.
+    Write,
+}
+
+/// A kind of note that a lane may wait for.
+#[derive(Clone, Copy, Debug, PartialEq, Eq)]
+pub enum Event {
+    /// A Worker runs.
+    Running,
+    /// An object was added.
+    Opened,
+    /// An object has closed.
+    Closed,
+    /// A Producer or a Consumer has paused.
+    Paused,
+    /// A Producer or a Consumer has resumed.
+    Resumed,
+    /// A transport has learnt its other end.
+    Tuple,
+    /// A packet of a Consumer on a direct transport has come.
+    Rtp,
+}
+
 /// What a stream carries.
 #[derive(Clone, Copy, Debug, PartialEq, Eq)]
 pub enum Media {

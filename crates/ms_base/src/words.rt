@@ -1,6 +1,6 @@
 ghost use Rattle.std.specs.Prelude.{◌≡◌, ◌++◌, ◌∷◌, length, decimal, OnOk, OnErr, ◌≤◌};
 ghost use Rattle.hex.specs.Hex.{encode_lower};
-ghost use Rattle.ms_base.specs.Words.{space, spaced, worker_words, IsFrontOf};
+ghost use Rattle.ms_base.specs.Words.{space, spaced, worker_words, ip_text, IsFrontOf};
 
 use crate::bytes::Bytes;
 use crate::fault::NoMemory;
@@ -36,6 +36,30 @@ pub fn push_worker(word: &[u8], worker: WorkerKey, into: &mut Bytes) -> Result<(
     into.extend_from_slice(word)?;
     push_number(u64::from(worker.slot), into)?;
     push_number(u64::from(worker.generation), into)
+}
+
+/// Appends an IPv4 address, its first octet first, as four numbers with dots between them.
+pub fn push_ip(ip: [u8; 4], into: &mut Bytes) -> Result<(), NoMemory>
+    ensures ok { OnOk result (into.new ≡ into.old ++ ip_text ip) }
+    ensures err { OnErr result (IsFrontOf into.old into.new) }
+{
+    let [a, b, c, d] = ip;
+    push_digits(a, into)?;
+    into.push(b'.')?;
+    push_digits(b, into)?;
+    into.push(b'.')?;
+    push_digits(c, into)?;
+    into.push(b'.')?;
+    push_digits(d, into)
+}
+
+// Appends a number.
+fn push_digits(number: u8, into: &mut Bytes) -> Result<(), NoMemory>
+    ensures ok { OnOk result (into.new ≡ into.old ++ decimal number) }
+    ensures err { OnErr result (into.new ≡ into.old) }
+{
+    let mut buffer = Buffer::new();
+    into.extend_from_slice(buffer.format(number).as_bytes())
 }
 
 const HEX_DIGITS: &[u8; 16] = b"0123456789abcdef";

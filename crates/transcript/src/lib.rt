@@ -5,7 +5,7 @@ mod lines;
 mod note;
 
 pub use lines::note_line;
-pub use note::Note;
+pub use note::{Cause, Note};
 
 #[cfg(test)]
 mod tests;

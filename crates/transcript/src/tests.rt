@@ -1,6 +1,7 @@
-use crate::{Note, note_line};
+use crate::{Cause, Note, note_line};
 use ms_base::{
-    Bytes, CallKey, Code, Id, Kind, Name, Outcome, Serial, Text, WorkerError, WorkerKey,
+    Bytes, CallKey, Code, Id, Kind, Name, Outcome, Reason, Serial, Text, Tuple, WorkerError,
+    WorkerKey,
 };
 use std::alloc::Global;
 use std::test::Fail;
@@ -10,25 +11,24 @@ const FAR: WorkerKey = WorkerKey {
     generation: 1001,
 };
 
-// One note of each form.
-fn note_of_form(alloc: Global, form: usize) -> Result<Note, Fail> {
+// One note of each form that tells of a worker.
+fn note_of_worker(alloc: Global, form: usize) -> Result<Note, Fail> {
     let worker = FAR;
     Ok(match form {
-        0 => Note::Open {
-            serial: Serial(2),
-            kind: Kind::Router,
-            name: Name::read(alloc, b"r_1")?,
-            id: Id::of(7, 2),
+        0 => Note::Spawn { worker },
+        1 => Note::Up { worker },
+        2 => Note::Gone {
+            worker,
+            cause: Cause::Start,
         },
-        1 => Note::Spawn { worker },
-        2 => Note::Up { worker },
-        3 => Note::Running {
-            name: Name::read(alloc, b"w")?,
-            generation: 1,
-        },
-        4 => Note::Sent {
+        3 => Note::Sent {
             worker,
             payload: Bytes::from_slice(alloc, b"{\"id\":1}")?,
+        },
+        4 => Note::SentRtp {
+            worker,
+            id: Id::of(7, 5),
+            packet: Bytes::from_slice(alloc, b"\x80\x6f")?,
         },
         5 => Note::Late { worker, id: 9 },
         6 => Note::Stray { worker },
@@ -36,29 +36,83 @@ fn note_of_form(alloc: Global, form: usize) -> Result<Note, Fail> {
         _ => Note::Log {
             worker,
             level: b'W',
-            text: Bytes::from_slice(alloc, b"\x00\xff")?,
+            text: Bytes::new(alloc),
         },
     })
 }
 
-const LINES: &[u8] = b"open 2 router r_1 00000000-0000-4007-8000-000000000002
-spawn 64 1001
+// One note of each form that tells of an object.
+fn note_of_object(alloc: Global, form: usize) -> Result<Note, Fail> {
+    let name = Name::read(alloc, b"x_1")?;
+    Ok(match form {
+        0 => Note::Open {
+            serial: Serial(2),
+            kind: Kind::Router,
+            name,
+            id: Id::of(7, 2),
+        },
+        1 => Note::Running {
+            name,
+            generation: 1,
+        },
+        2 => Note::Closed {
+            serial: Serial(2),
+            name,
+            reason: Reason::WorkerClose,
+        },
+        3 => Note::Paused { name },
+        4 => Note::Resumed { name },
+        5 => Note::Tuple {
+            name,
+            remote: Tuple {
+                ip: [10, 0, 0, 1],
+                port: 5004,
+            },
+        },
+        _ => Note::Rtp {
+            name,
+            packet: Bytes::from_slice(alloc, b"\x00\xff")?,
+        },
+    })
+}
+
+const OF_WORKERS: &[u8] = b"spawn 64 1001
 up 64 1001
-running w 1
+gone 64 1001 start
 sent 64 1001 {\"id\":1}
+sent 64 1001 rtp 00000000-0000-4007-8000-000000000005 806f
 late 64 1001 9
 stray 64 1001
 unexpected 64 1001
-log 64 1001 W 00ff
+log 64 1001 W 
+";
+
+const OF_OBJECTS: &[u8] = b"open 2 router x_1 00000000-0000-4007-8000-000000000002
+running x_1 1
+closed 2 x_1 workerclose
+paused x_1
+resumed x_1
+tuple x_1 10.0.0.1 5004
+rtp x_1 00ff
 ";
 
 #[test]
-fn each_note_has_its_line(rt: HostRuntime) -> Result<(), Fail> {
+fn each_note_of_a_worker_has_its_line(rt: HostRuntime) -> Result<(), Fail> {
     let mut lines = Bytes::new(rt.alloc());
     for form in 0..9 {
-        note_line(rt.alloc(), &note_of_form(rt.alloc(), form)?, &mut lines)?;
+        note_line(rt.alloc(), &note_of_worker(rt.alloc(), form)?, &mut lines)?;
     }
-    assert_eq!(rt; lines.as_slice(), LINES);
+    assert_eq!(rt; lines.as_slice(), OF_WORKERS);
+    Ok(())
+}
+
+#[test]
+fn each_note_of_an_object_has_its_line(rt: HostRuntime) -> Result<(), Fail> {
+    let mut lines = Bytes::new(rt.alloc());
+    for form in 0..7 {
+        note_line(rt.alloc(), &note_of_object(rt.alloc(), form)?, &mut lines)?;
+    }
+    assert_eq!(rt; lines.as_slice(), OF_OBJECTS);
     Ok(())
 }
 
@@ -71,20 +125,17 @@ fn settled(alloc: Global, outcome: Outcome) -> Result<Bytes, Fail> {
 }
 
 #[test]
-fn each_plain_outcome_has_its_word(rt: HostRuntime) -> Result<(), Fail> {
+fn outcomes_have_their_words(rt: HostRuntime) -> Result<(), Fail> {
+    let by = Name::read(rt.alloc(), b"w")?;
     let code = Code::SameRouter;
-    let table: [(Outcome, &[u8]); 8] = [
+    let table: [(Outcome, &[u8]); 4] = [
         (Outcome::Done, b"settled 1 2 ok\n"),
-        (Outcome::NameTaken, b"settled 1 2 nametaken\n"),
-        (Outcome::NoName, b"settled 1 2 noname\n"),
-        (Outcome::WrongKind, b"settled 1 2 wrongkind\n"),
-        (Outcome::InvalidState, b"settled 1 2 invalidstate\n"),
-        (Outcome::IdsSpent, b"settled 1 2 idsspent\n"),
-        (Outcome::TooBig, b"settled 1 2 toobig\n"),
+        (Outcome::Answer(false), b"settled 1 2 no\n"),
         (
             Outcome::TypeError { code },
             b"settled 1 2 typeerror same_router\n",
         ),
+        (Outcome::Closed { by }, b"settled 1 2 closed w\n"),
     ];
     for (outcome, line) in table {
         assert_eq!(rt; settled(rt.alloc(), outcome)?.as_slice(), line);

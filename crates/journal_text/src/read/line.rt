@@ -1,44 +1,20 @@
-ghost use Rattle.std.specs.Prelude.{◌≡◌};
+ghost use Rattle.std.specs.Prelude.{◌≡◌, ◌∷◌, [], Err};
 ghost use Rattle.std.specs.Option.{option_copied};
-ghost use Rattle.journal_text.specs.Reading.{words_behind, entry_of_line, entry_line_of, call_of, call_line, worker_call, worker_line, router_call, router_line, spawned_of, spawned_line, chunk_of, chunk_line, seed_of_line, head_of};
-ghost use Rattle.journal_text.specs.Gives.{Gives};
+ghost use Rattle.ms_base.specs.declared.entry.Entry.TheVariants as entry;
+ghost use Rattle.journal_text.specs.Reading.{entry_of_line, entry_line_of, call_of, wait_of, in_lane, fault_in_lane, is_of_line, worker_line, up_of, chunk_of};
+ghost use Rattle.script_text.specs.Words.{words_behind};
+ghost use Rattle.script_text.specs.Calls.{op_of, await_of};
+ghost use Rattle.script_text.specs.Gives.{Gives};
 
-use crate::fault::WordFault;
-use crate::read::words::{
-    first_two, first_word, read_budget, read_hex, read_json, read_lane, read_name, read_number,
-    read_up, read_worker, three_words, two_and_rest, two_words,
+use ms_base::{Bytes, Code, Entry};
+use script_text::{
+    WordFault, first_two, first_word, read_await, read_hex, read_lane, read_op, read_worker,
+    three_words,
 };
-use ms_base::{Code, Entry, Op};
 use std::alloc::Global;
 
-// The greatest seed.
-const MAX_SEED: u64 = 1_152_921_504_606_846_975;
-
-/// The seed of a first line.
-pub(crate) fn read_head(line: &[u8]) -> Result<u64, Code>
-    ensures { result ≡ seed_of_line line.now }
-{
-    let Ok(line) = std::str::from_utf8(line) else {
-        return Err(Code::Utf8);
-    };
-    match three_words(Some(line)) {
-        Some((first, version, seed)) => read_seed(first, version, seed),
-        None => Err(Code::Head),
-    }
-}
-
-// `journal 1 SEED`
-fn read_seed(first: &str, version: &str, seed: &str) -> Result<u64, Code>
-    ensures { result ≡ head_of first.now version.now seed.now }
-{
-    if first != "journal" || version != "1" {
-        return Err(Code::Head);
-    }
-    match read_number(seed, 0, MAX_SEED) {
-        Ok(seed) => Ok(seed),
-        Err(_) => Err(Code::Head),
-    }
-}
+// The most bytes that a chunk has.
+const MAX_CHUNK: usize = 65_536;
 
 /// The entry of a line other than the first.
 pub(crate) fn read_entry(alloc: Global, line: &[u8]) -> Result<Entry, WordFault>
@@ -59,138 +35,163 @@ fn read_entry_line(alloc: Global, first: &str, rest: Option<&str>) -> Result<Ent
 {
     match first {
         "call" => read_call(alloc, rest),
+        "await" => read_wait(alloc, rest),
         "spawned" => read_spawned(rest),
         "chunk" => read_chunk(alloc, rest),
         _ => Err(WordFault::Bad(Code::Op)),
     }
 }
 
-// Behind `call`: a lane, and a word that begins a call.
+// Behind `call`: a lane, and a call.
+#[tactic(auto, using(crate::proofs::Shapes::call_short, crate::proofs::Shapes::call_at))]
 fn read_call(alloc: Global, rest: Option<&str>) -> Result<Entry, WordFault>
     ensures { Gives result (call_of (words_behind (option_copied rest.entry))) }
 {
     match first_two(rest) {
-        Some((lane, word, rest)) => read_call_line(alloc, lane, word, rest),
+        Some((lane, first, rest)) => read_lane_call(alloc, lane, first, rest),
         None => Err(WordFault::Bad(Code::Op)),
     }
 }
 
-// A lane, and a word that begins a call.
-fn read_call_line(
+// `L CALL`
+fn read_lane_call(
     alloc: Global,
     lane: &str,
-    word: &str,
+    first: &str,
     rest: Option<&str>,
 ) -> Result<Entry, WordFault>
-    ensures { Gives result (call_line lane.now word.now (words_behind (option_copied rest.entry))) }
+    ensures { Gives result (in_lane entry.Call lane.now (op_of first.now (words_behind (option_copied rest.entry)))) }
 {
-    match word {
-        "worker" => read_worker_call(alloc, lane, rest),
-        "router" => read_router_call(alloc, lane, rest),
-        _ => Err(WordFault::Bad(Code::Op)),
+    match read_op(alloc, first, rest) {
+        Ok(op) => {
+            let lane = read_lane(lane)?;
+            Ok(Entry::Call { lane, op })
+        }
+        Err(WordFault::Bad(code)) => Err(WordFault::Bad(fault_in_lane(lane, code))),
+        Err(WordFault::NoMemory) => Err(WordFault::NoMemory),
     }
 }
 
-// Behind `worker`: `N B`.
-fn read_worker_call(alloc: Global, lane: &str, rest: Option<&str>) -> Result<Entry, WordFault>
-    ensures { Gives result (worker_call lane.now (words_behind (option_copied rest.entry))) }
+// Behind `await`: a lane, and what is waited for.
+#[tactic(auto, using(crate::proofs::Shapes::no_wait, crate::proofs::Shapes::wait_at))]
+fn read_wait(alloc: Global, rest: Option<&str>) -> Result<Entry, WordFault>
+    ensures { Gives result (wait_of (words_behind (option_copied rest.entry))) }
 {
-    match two_words(rest) {
-        Some((name, budget)) => read_worker_line(alloc, lane, name, budget),
+    match rest {
+        Some(rest) => {
+            let (lane, rest) = first_word(rest);
+            read_lane_wait(alloc, lane, rest)
+        }
         None => Err(WordFault::Bad(Code::Words)),
     }
 }
 
-// `L worker N B`
-#[tactic(auto, unfolding(crate::specs::Reading::worker_line))]
-fn read_worker_line(alloc: Global, lane: &str, name: &str, budget: &str) -> Result<Entry, WordFault>
-    ensures { Gives result (worker_line lane.now name.now budget.now) }
+// `L X EVENT COUNT`
+fn read_lane_wait(alloc: Global, lane: &str, rest: Option<&str>) -> Result<Entry, WordFault>
+    ensures { Gives result (in_lane (λ l a. entry.Await l a.0 a.1 a.2) lane.now (await_of (words_behind (option_copied rest.entry)))) }
 {
-    let lane = read_lane(lane)?;
-    let name = read_name(alloc, name)?;
-    let budget = read_budget(budget)?;
-    Ok(Entry::Call {
-        lane,
-        op: Op::Worker { name, budget },
-    })
-}
-
-// Behind `router`: `N W J`, where J is the rest of the line.
-fn read_router_call(alloc: Global, lane: &str, rest: Option<&str>) -> Result<Entry, WordFault>
-    ensures { Gives result (router_call lane.now (words_behind (option_copied rest.entry))) }
-{
-    match two_and_rest(rest) {
-        Some((name, worker, options)) => read_router_line(alloc, lane, name, worker, options),
-        None => Err(WordFault::Bad(Code::Words)),
+    match read_await(alloc, rest) {
+        Ok((name, event, count)) => {
+            let lane = read_lane(lane)?;
+            Ok(Entry::Await {
+                lane,
+                name,
+                event,
+                count,
+            })
+        }
+        Err(WordFault::Bad(code)) => Err(WordFault::Bad(fault_in_lane(lane, code))),
+        Err(WordFault::NoMemory) => Err(WordFault::NoMemory),
     }
 }
 
-// `L router N W J`
-#[tactic(auto, unfolding(crate::specs::Reading::router_line))]
-fn read_router_line(
-    alloc: Global,
-    lane: &str,
-    name: &str,
-    worker: &str,
-    options: &str,
-) -> Result<Entry, WordFault>
-    ensures { Gives result (router_line lane.now name.now worker.now options.now) }
+// The code of a line with a lane where the words behind the lane have this one.
+fn fault_in_lane(lane: &str, code: Code) -> Code
+    ensures { fault_in_lane lane.now code ≡ Err result }
 {
-    let lane = read_lane(lane)?;
-    let name = read_name(alloc, name)?;
-    let worker = read_name(alloc, worker)?;
-    let options = read_json(alloc, options)?;
-    Ok(Entry::Call {
-        lane,
-        op: Op::Router {
-            name,
-            worker,
-            options,
-        },
-    })
+    if is_of_line(code) {
+        return code;
+    }
+    match read_lane(lane) {
+        Ok(_) => code,
+        Err(wrong) => wrong,
+    }
+}
+
+// Whether a code says that there is no such line, or none of so many words.
+#[tactic(auto, using(crate::proofs::Shapes::other_code))]
+fn is_of_line(code: Code) -> bool
+    ensures { result ≡ is_of_line code }
+{
+    matches!(code, Code::Op | Code::Words)
 }
 
 // Behind `spawned`.
+#[tactic(auto, using(crate::proofs::Shapes::worker_other))]
 fn read_spawned(rest: Option<&str>) -> Result<Entry, WordFault>
-    ensures { Gives result (spawned_of (words_behind (option_copied rest.entry))) }
+    ensures { Gives result (worker_line up_of entry.Spawned (words_behind (option_copied rest.entry))) }
 {
     match three_words(rest) {
-        Some((slot, generation, event)) => read_spawned_line(slot, generation, event),
+        Some((slot, generation, event)) => read_spawned_words(slot, generation, event),
         None => Err(WordFault::Bad(Code::Words)),
     }
 }
 
 // `S G up` or `S G failed`
-#[tactic(auto, unfolding(crate::specs::Reading::spawned_line))]
-fn read_spawned_line(slot: &str, generation: &str, event: &str) -> Result<Entry, WordFault>
-    ensures { Gives result (spawned_line slot.now generation.now event.now) }
+#[tactic(auto, unfolding(crate::specs::Reading::worker_line))]
+fn read_spawned_words(slot: &str, generation: &str, event: &str) -> Result<Entry, WordFault>
+    ensures { Gives result (worker_line up_of entry.Spawned (slot.now ∷ generation.now ∷ event.now ∷ [])) }
 {
     let worker = read_worker(slot, generation)?;
     let up = read_up(event)?;
     Ok(Entry::Spawned { worker, up })
 }
 
+// Whether a start has come up.
+fn read_up(word: &str) -> Result<bool, Code>
+    ensures { result ≡ up_of word.now }
+{
+    match word {
+        "up" => Ok(true),
+        "failed" => Ok(false),
+        _ => Err(Code::Event),
+    }
+}
+
 // Behind `chunk`.
+#[tactic(auto, using(crate::proofs::Shapes::worker_other))]
 fn read_chunk(alloc: Global, rest: Option<&str>) -> Result<Entry, WordFault>
-    ensures { Gives result (chunk_of (words_behind (option_copied rest.entry))) }
+    ensures { Gives result (worker_line chunk_of entry.Chunk (words_behind (option_copied rest.entry))) }
 {
     match three_words(rest) {
-        Some((slot, generation, digits)) => read_chunk_line(alloc, slot, generation, digits),
+        Some((slot, generation, digits)) => read_chunk_words(alloc, slot, generation, digits),
         None => Err(WordFault::Bad(Code::Words)),
     }
 }
 
 // `S G H`
-#[tactic(auto, unfolding(crate::specs::Reading::chunk_line))]
-fn read_chunk_line(
+#[tactic(auto, unfolding(crate::specs::Reading::worker_line))]
+fn read_chunk_words(
     alloc: Global,
     slot: &str,
     generation: &str,
     digits: &str,
 ) -> Result<Entry, WordFault>
-    ensures { Gives result (chunk_line slot.now generation.now digits.now) }
+    ensures { Gives result (worker_line chunk_of entry.Chunk (slot.now ∷ generation.now ∷ digits.now ∷ [])) }
 {
     let worker = read_worker(slot, generation)?;
-    let bytes = read_hex(alloc, digits)?;
+    let bytes = read_bytes(alloc, digits)?;
     Ok(Entry::Chunk { worker, bytes })
+}
+
+// The bytes of a chunk.
+fn read_bytes(alloc: Global, digits: &str) -> Result<Bytes, WordFault>
+    ensures { Gives result (chunk_of digits.now) }
+{
+    let bytes = read_hex(alloc, digits)?;
+    if bytes.len() <= MAX_CHUNK {
+        Ok(bytes)
+    } else {
+        Err(WordFault::Bad(Code::Hex))
+    }
 }

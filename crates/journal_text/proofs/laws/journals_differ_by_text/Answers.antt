@@ -1,4 +1,4 @@
-use Rattle.journal_text.proofs.Back.{differ_by_text}
+use Rattle.journal_text.proofs.Journals.{differ_by_text}
 use Rattle.journal_text.proofs.laws.journals_differ_by_text.Goals as goal
 
 pub returns : goal.returns

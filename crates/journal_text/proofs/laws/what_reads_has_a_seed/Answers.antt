@@ -1,5 +1,5 @@
-use Rattle.journal_text.proofs.Spelling.{seed_fits}
+use Rattle.journal_text.proofs.Journals.{text_back}
 use Rattle.journal_text.proofs.laws.what_reads_has_a_seed.Goals as goal
 
 pub returns : goal.returns
-returns c = seed_fits
+returns c = λ text seed entries h. (text_back text seed entries h).below

@@ -1,5 +1,5 @@
-use Rattle.journal_text.proofs.WellFormed.{reads_well_formed}
+use Rattle.journal_text.proofs.Journals.{text_back}
 use Rattle.journal_text.proofs.laws.what_reads_is_well_formed.Goals as goal
 
 pub returns : goal.returns
-returns c = reads_well_formed
+returns c = λ text seed entries h. (text_back text seed entries h).fits

@@ -1,4 +1,4 @@
-use Rattle.journal_text.proofs.Back.{reads_back}
+use Rattle.journal_text.proofs.Journals.{reads_back}
 use Rattle.journal_text.proofs.laws.written_journals_read_back.Goals as goal
 
 pub returns : goal.returns

@@ -1,6 +1,6 @@
 use Rattle.std.proofs.lemmas.Bool.{cond-true, cond-false}
 use Rattle.std.proofs.lemmas.Str.{is_utf8-from_IsUtf8}
-use Rattle.journal_text.proofs.Pieces.{not_utf8}
+use Rattle.script_text.proofs.Pieces.{not_utf8}
 use Rattle.journal_text.proofs.read.cut_code.Goals as goal
 
 pub returns-in-Ok : goal.returns-in-Ok

@@ -1,10 +1,12 @@
 use Rattle.std.proofs.Common.{◌≡◌, ℕ, ◌+◌, ◌<◌, ◌≤◌, List, [], ◌∷◌, ◌++◌, Option, Err, IfSome, Bor, length, ap, sym, ◌∙◌, subst, arith}
 use Rattle.std.specs.Option.{option_copied}
 use Rattle.ms_base.specs.declared.entry.Entry.{Entry}
-use Rattle.journal_text.specs.declared.fault.WordFault.{WordFault}
+use Rattle.script_text.specs.declared.fault.WordFault.{WordFault}
 use Rattle.journal_text.specs.declared.fault.JournalFault.TheVariants as fault
-use Rattle.journal_text.specs.Gives.{Gives, told_line}
-use Rattle.journal_text.specs.Reading.{entry_of_line, lines, lines_behind, entries_of, with_front}
+use Rattle.script_text.specs.Gives.{Gives}
+use Rattle.script_text.specs.Words.{lines, lines_behind}
+use Rattle.journal_text.specs.Gives.{told_line}
+use Rattle.journal_text.specs.Reading.{entry_of_line, entries_of, with_front}
 use Rattle.journal_text.proofs.Texts.{entries_fault, entries_step, tells_from}
 use Rattle.journal_text.proofs.read.read_entries.Goals as goal
 

@@ -1,5 +1,6 @@
 use Rattle.std.proofs.Common.{◌≡◌, ◌+◌, ◌≤◌, length}
-use Rattle.journal_text.specs.Reading.{lines, entries_of, with_front}
+use Rattle.script_text.specs.Words.{lines}
+use Rattle.journal_text.specs.Reading.{entries_of, with_front}
 use Rattle.journal_text.proofs.read.read_entries.Given as goal
 
 abbrev pub invariant-lines : goal.invariant-lines

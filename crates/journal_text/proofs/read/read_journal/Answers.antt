@@ -1,10 +1,9 @@
 use Rattle.std.proofs.Common.{ℕ, List, ◌∷◌, Option, Bor, ap, sym, ◌∙◌}
 use Rattle.std.specs.Option.{option_copied}
 use Rattle.ms_base.specs.declared.code.Code.TheVariants as code
-use Rattle.journal_text.specs.Reading.{lines_behind}
+use Rattle.script_text.specs.Words.{lines_behind}
 use Rattle.journal_text.proofs.Texts.{head_fault, head_cut, head_read, all_read, tells_from, tells_behind}
-use Rattle.journal_text.proofs.Spelling.{seed_fits, text_size}
-use Rattle.journal_text.proofs.WellFormed.{reads_well_formed}
+use Rattle.journal_text.proofs.Journals.{text_back, text_size}
 use Rattle.journal_text.proofs.read.read_journal.Goals as goal
 
 pub returns-in-Err-clause-bad : goal.returns-in-Err-clause-bad
@@ -23,12 +22,12 @@ returns-in-Ok-read_entries-clause-ok c =
 pub returns-in-Ok-read_entries-clause-seed : goal.returns-in-Ok-read_entries-clause-seed
 returns-in-Ok-read_entries-clause-seed c =
     let pieces = c.first_line.ensures.pieces ∙ ap (λ (o : Option (Bor (List ℕ))). c.first_line.result.0.now ∷ lines_behind (option_copied o)) c.in-Some.is in
-    seed_fits c.args.text.now c.in-Ok.seed c.in-Ok-read_entries.entries.items (all_read c.args.text.now _ c.in-Some.rest.now c.in-Ok.seed _ pieces (sym c.in-Ok.ensures) c.in-Ok-read_entries.ensures.ok)
+    (text_back c.args.text.now c.in-Ok.seed c.in-Ok-read_entries.entries.items (all_read c.args.text.now _ c.in-Some.rest.now c.in-Ok.seed _ pieces (sym c.in-Ok.ensures) c.in-Ok-read_entries.ensures.ok)).below
 
 pub returns-in-Ok-read_entries-clause-form : goal.returns-in-Ok-read_entries-clause-form
 returns-in-Ok-read_entries-clause-form c =
     let pieces = c.first_line.ensures.pieces ∙ ap (λ (o : Option (Bor (List ℕ))). c.first_line.result.0.now ∷ lines_behind (option_copied o)) c.in-Some.is in
-    reads_well_formed c.args.text.now c.in-Ok.seed c.in-Ok-read_entries.entries.items (all_read c.args.text.now _ c.in-Some.rest.now c.in-Ok.seed _ pieces (sym c.in-Ok.ensures) c.in-Ok-read_entries.ensures.ok)
+    (text_back c.args.text.now c.in-Ok.seed c.in-Ok-read_entries.entries.items (all_read c.args.text.now _ c.in-Some.rest.now c.in-Ok.seed _ pieces (sym c.in-Ok.ensures) c.in-Ok-read_entries.ensures.ok)).fits
 
 pub returns-in-Ok-read_entries-clause-size : goal.returns-in-Ok-read_entries-clause-size
 returns-in-Ok-read_entries-clause-size c =

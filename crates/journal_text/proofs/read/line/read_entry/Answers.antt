@@ -1,8 +1,9 @@
 use Rattle.std.proofs.Common.{◌≡◌, Result, ap, sym, ◌∙◌, subst}
 use Rattle.ms_base.specs.declared.code.Code.{Code}
 use Rattle.ms_base.specs.declared.entry.Entry.{Entry}
-use Rattle.journal_text.specs.Gives.{Gives}
-use Rattle.journal_text.specs.Reading.{entry_of_words, words}
+use Rattle.script_text.specs.Gives.{Gives}
+use Rattle.script_text.specs.Words.{words}
+use Rattle.journal_text.specs.Reading.{entry_of_words}
 use Rattle.journal_text.proofs.Texts.{entry_text, entry_no_text}
 use Rattle.journal_text.proofs.read.line.read_entry.Goals as goal
 

@@ -1,0 +1,13 @@
+pub mod Numbers
+pub mod Pieces
+pub mod HexCase
+pub mod Cuts
+pub mod Rests
+pub mod WordLaws
+pub mod HeadLaws
+pub mod FormLaws
+pub mod CallLaws
+pub mod Rows
+pub mod ScriptLines
+pub mod ScriptLaws
+pub mod ScriptBack
