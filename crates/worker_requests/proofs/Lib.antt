@@ -1,0 +1,4 @@
+pub mod IpLemmas
+pub mod ContentLemmas
+pub mod TextLemmas
+pub mod ShortLemmas
