@@ -1,5 +1,5 @@
-ghost use Rattle.std.specs.Prelude.{◌≡◌, ◌↔◌, true, false, Some, None, Err, IsSome, OnOk, OnErr};
-ghost use Rattle.plain_transport.specs.Connection.{unconnected, connected, accept_of, accepted};
+ghost use Rattle.std.specs.Prelude.{◌≡◌, ◌↔◌, not, is_some, true, false, Some, None, Err, IsSome, OnOk, OnErr};
+ghost use Rattle.plain_transport.specs.Connection.{connect_fault_of, unconnected, connected, accept_of, accepted};
 
 use crate::accept::Accept;
 use crate::fault::PlainFault;
@@ -31,6 +31,13 @@ impl PlainTransport {
             comedia,
             remote: None,
         }
+    }
+
+    /// Whether it would take a tuple that it is told.
+    pub fn can_connect(&self) -> bool
+        ensures { result ≡ not (is_some (connect_fault_of self.now)) }
+    {
+        !self.comedia && self.remote.is_none()
     }
 
     /// Tells the tuple. A transport that refuses is as it was.

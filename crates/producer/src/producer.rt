@@ -1,4 +1,4 @@
-ghost use Rattle.std.specs.Prelude.{◌≡◌, ℕ, ◌<◌, ◌≤◌, true, false, is_some, ◌&&◌, IfOk, IfSome};
+ghost use Rattle.std.specs.Prelude.{◌≡◌, ℕ, ◌<◌, ◌≤◌, true, false, is_some, length, ◌&&◌, IfOk, IfSome};
 ghost use Rattle.rtp_extension.specs.Ids.{new_id};
 ghost use Rattle.rtp_params.specs.Readable.{Each};
 ghost use Rattle.producer.specs.Ids.{element_id};
@@ -47,11 +47,13 @@ impl Producer {
         paused: bool,
     ) -> Result<Producer, NoMemory>
         ensures made { IfOk result (λ p. p ≡ stream_of params.now mapping.now p.ids paused) }
-        // The id of the table by each of the parameters' own.
+        // At each of 256 places the id of the table by the parameters' own.
+        ensures places { IfOk result (λ p. length p.ids ≡ 256) }
         ensures ids { IfOk result (λ p. (id : ℕ) → id < 256 → new_id p.ids id ≡ element_id params.now exts.now id) }
     {
         let types = media_types(params, mapping);
         let ids = ids_of(params, exts);
+        ids.has_places();
         let params = params.copy(alloc)?;
         let mapping = mapping.copy(alloc)?;
         Ok(Producer {

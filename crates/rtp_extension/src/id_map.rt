@@ -1,6 +1,6 @@
 //! New ids for elements.
 
-ghost use Rattle.std.specs.Prelude.{◌≡◌, ◌≢◌, ℕ, ◌≤◌, IfSome, Some, None};
+ghost use Rattle.std.specs.Prelude.{◌≡◌, ◌≢◌, ℕ, ◌≤◌, length, IfSome, Some, None};
 ghost use Rattle.rtp_extension.specs.Ids.{new_id};
 ghost use Rattle.rtp_extension.specs.Laws.{AreIds};
 
@@ -57,6 +57,13 @@ impl IdMap {
         ensures least { IfSome result (λ new. 1 ≤ new) }
     {
         self.ids[usize::from(id)]
+    }
+
+    /// A map has a place for each id. The function does nothing; its contract is the law.
+    pub fn has_places(&self)
+        ensures { length self.now ≡ 256 }
+    {
+        let _ids = &self.ids;
     }
 
     /// What holds of each map: a new id is one that an element can have.
