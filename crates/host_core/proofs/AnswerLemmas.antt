@@ -1,9 +1,10 @@
 -- What holds of the answer to a call.
-use Rattle.std.proofs.Common.{◌≡◌, ◌≤◌, ◌<◌, ℕ, ◌+◌, List, [], ◌∷◌, ◌++◌, length, nat_le, nat_lt, Bool, true, false, not, ◌||◌, ◌==◌, cond, Option, Some, None, refl, sym, ap, ap₂, ◌∙◌, subst, subst₂, arith}
+use Rattle.std.proofs.Common.{◌≡◌, ◌≤◌, ◌<◌, ℕ, ◌+◌, List, [], ◌∷◌, ◌++◌, length, nat_le, nat_lt, Bool, true, false, not, ◌||◌, ◌==◌, cond, Option, Some, None, option_map, is_some, refl, sym, ap, ap₂, ◌∙◌, subst, subst₂, arith}
 use Rattle.std.specs.List.{list_any, list_all}
 use Rattle.std.specs.Prelude.{⊤}
 use Rattle.std.proofs.lemmas.Bool.{leb-false, ltb-false}
 use Rattle.ms_base.specs.declared.op.Op.{Op}
+use Rattle.ms_base.specs.declared.op.Op.TheVariants as op
 use Rattle.ms_base.specs.declared.keys.CallKey.{CallKey}
 use Rattle.ms_base.specs.declared.keys.Serial.{Serial}
 use Rattle.ms_base.specs.declared.keys.WorkerKey.{WorkerKey}
@@ -14,15 +15,39 @@ use Rattle.ms_base.specs.declared.outcome.Outcome.TheVariants as outcome
 use Rattle.ms_base.specs.declared.code.Code.TheVariants as code
 use Rattle.channel_frames.specs.Frames.{max_payload}
 use Rattle.channel_msgs.specs.Read.{max_id}
-use Rattle.host_core.specs.State.{State, Object, Slot, Wanted, channel_of, pending, numbered, as_serial, call_key, next_call}
+use Rattle.host_core.specs.State.{State, Object, Slot, Wanted, named, channel_of, pending, numbered, as_serial, call_key, next_call}
 use Rattle.host_core.specs.Answer.{Known, Found, Worker, Router, Ask, Built, Refused, NewWorker, Asked, Answer, Refuses, AddsWorker, Issues, max_slots, makes, is_taken, found, needs, is_of_kind, is_closed, is_unready, wrong_in, built_of, unless_wrong, built_by, build, payload_of, unless_long, on_channel, answer_to, answer, known, new_worker}
 use Rattle.host_core.specs.Laws.{IsSound}
 use Rattle.host_core.specs.LookUps.{ObjectsView, SlotsView, IsFresh, counted}
 use Rattle.host_core.specs.Step.{noted, call_entered, answered, called, object_added, new_slot, worker_wanted}
-use Rattle.host_core.specs.Tables.{IsKept, Moves, Goes, IsDue, IsFree, HasNoFloat, known_of}
+use Rattle.host_core.specs.Tables.{IsKept, Moves, Goes, IsDue, IsFree, IsNew, HasNoFloat, known_of}
 use Rattle.host_core.specs.declared.calls.Calls.{Calls}
 use Rattle.host_core.specs.declared.tables.Tables.{Tables}
+use Rattle.host_core.proofs.IndexLemmas.{bytes-same}
 use Rattle.host_core.proofs.TablesLemmas.{known-same, next-free, next-waits_not, entered-kept, drawn-kept, slots-kept}
+
+-- ---- the names that a call makes, by what it needs
+
+abbrev names_of : Found → List (List ℕ)
+names_of (Worker name budget) = name ∷ []
+names_of (Router name worker options) = name ∷ []
+
+router-names : (name options : List ℕ) (worker : Option Object) (c : Found) → option_map (λ w. Router name w options) worker ≡ Some c → name ∷ [] ≡ names_of c
+router-names name options None c is = absurd cc
+router-names name options (Some w) c is = ap (λ (o : Option Found). names_in o) is
+  where
+    names_in : Option Found → List (List ℕ)
+    names_in None = []
+    names_in (Some f) = names_of f
+
+makes-found : (k : Known) (o : Op) (c : Found) → found k o ≡ Some c → makes o ≡ names_of c
+makes-found k (op.Worker name budget) c is = ap (λ (o : Option Found). names_in o) is
+  where
+    names_in : Option Found → List (List ℕ)
+    names_in None = []
+    names_in (Some f) = names_of f
+makes-found k (op.Router name worker options) c is = router-names name options (named k.objects worker) c is
+makes-found k other c is = absurd cc
 
 -- ---- what holds of refusals, and of what is built where nothing is wrong, holds of what a call comes to
 
@@ -35,14 +60,20 @@ module _ (P : Built → Type 0) (refused : (o : Outcome) → P (Refused o)) wher
   cond-is true o x h = refused o
   cond-is false o x h = h
 
-  built_by-is : (k : Known) (call : Option Found) → ((c : Found) → wrong_in k c ≡ None → P (built_of k c)) → P (built_by k call)
+  built_by-is : (k : Known) (call : Option Found) → ((c : Found) → call ≡ Some c → wrong_in k c ≡ None → P (built_of k c)) → P (built_by k call)
   built_by-is k None each = refused outcome.NoName
   built_by-is k (Some call) each =
       cond-is (not (list_all is_of_kind (needs call))) outcome.WrongKind _
-      (cond-is (list_any is_closed (needs call) || is_unready call) outcome.InvalidState _ (unless-is k call (wrong_in k call) (each call)))
+      (cond-is (list_any is_closed (needs call) || is_unready call) outcome.InvalidState _ (unless-is k call (wrong_in k call) (each call refl)))
 
-  pub build-is : (k : Known) (o : Op) → ((c : Found) → wrong_in k c ≡ None → P (built_of k c)) → P (build k o)
-  build-is k o each = cond-is (list_any (is_taken k) (makes o)) outcome.NameTaken _ (built_by-is k (found k o) each)
+  free-is : (b : Bool) (x : Built) → (b ≡ false → P x) → P (cond b (Refused outcome.NameTaken) x)
+  free-is true x h = refused outcome.NameTaken
+  free-is false x h = h refl
+
+  pub build-is : (k : Known) (o : Op) → ((c : Found) → list_any (is_taken k) (names_of c) ≡ false → wrong_in k c ≡ None → P (built_of k c)) → P (build k o)
+  build-is k o each =
+      free-is (list_any (is_taken k) (makes o)) _
+      (λ free. built_by-is k (found k o) (λ c is. each c (ap (list_any (is_taken k)) (sym (makes-found k o c is)) ∙ free)))
 
 -- ---- a request has no float
 
@@ -51,46 +82,53 @@ no_float-of k (Worker name budget) = tt
 no_float-of k (Router name worker options) = λ id. refl
 
 pub no_float : (k : Known) (o : Op) → HasNoFloat (build k o)
-no_float k o = build-is HasNoFloat (λ _. tt) k o (λ c e. no_float-of k c)
+no_float k o = build-is HasNoFloat (λ _. tt) k o (λ c free e. no_float-of k c)
 
 -- ---- the numbers of an answer fit
 
 abbrev IsBuiltDue : Known → Built → Type 0
 IsBuiltDue k (Refused outcome) = ⊤
 IsBuiltDue k (NewWorker name budget) = length k.slots < max_slots
-IsBuiltDue k (Asked ask) = ⊤
+IsBuiltDue k (Asked ask) = IsNew k ask.makes
 
-due-of : (k : Known) (c : Found) → wrong_in k c ≡ None → IsBuiltDue k (built_of k c)
-due-of k (Worker name budget) e = at (nat_le max_slots (length k.slots)) refl e
+neither : (a b : Bool) → ((a || b) || false) ≡ false → b ≡ false
+neither true b h = absurd cc
+neither false true h = absurd cc
+neither false false h = refl
+
+due-of : (k : Known) (c : Found) → list_any (is_taken k) (names_of c) ≡ false → wrong_in k c ≡ None → IsBuiltDue k (built_of k c)
+due-of k (Worker name budget) free e = at (nat_le max_slots (length k.slots)) refl e
   where
     at : (b : Bool) → nat_le max_slots (length k.slots) ≡ b → cond b (Some (outcome.TypeError code.Slots)) None ≡ None → length k.slots < max_slots
     at true f g = absurd cc
     at false f g = leb-false max_slots (length k.slots) f
-due-of k (Router name worker options) e = tt
+due-of k (Router name worker options) free e = λ other same.
+    let few : k.being_made name ≤ 0 = ltb-false 0 (k.being_made name) (neither (is_some (named k.objects name)) (nat_lt 0 (k.being_made name)) free) in
+    subst (λ n. k.being_made n ≡ 0) (bytes-same name other same) (omega arith)
 
-long-due : (k : Known) (ask : Ask) (channel : WorkerKey) (id : ℕ) (payload : List ℕ) → id ≡ k.issued channel + 1 → id ≤ max_id
+long-due : (k : Known) (ask : Ask) (channel : WorkerKey) (id : ℕ) (payload : List ℕ) → IsNew k ask.makes → id ≡ k.issued channel + 1 → id ≤ max_id
     → IsDue k (unless_long ask channel id payload)
-long-due k ask channel id payload e h = at (nat_lt max_payload (length payload)) refl
+long-due k ask channel id payload new e h = at (nat_lt max_payload (length payload)) refl
   where
     at : (b : Bool) → nat_lt max_payload (length payload) ≡ b → IsDue k (cond b (Refuses outcome.TooBig) (Issues ask.under ask.makes channel id payload))
     at true f = tt
-    at false f = (e, h, ltb-false max_payload (length payload) f)
+    at false f = (e, h, ltb-false max_payload (length payload) f, new)
 
-channel-due : (k : Known) (ask : Ask) (channel : Option WorkerKey) → IsDue k (on_channel k ask channel)
-channel-due k ask None = tt
-channel-due k ask (Some channel) = at (nat_le max_id (k.issued channel)) refl
+channel-due : (k : Known) (ask : Ask) (channel : Option WorkerKey) → IsNew k ask.makes → IsDue k (on_channel k ask channel)
+channel-due k ask None new = tt
+channel-due k ask (Some channel) new = at (nat_le max_id (k.issued channel)) refl
   where
     at : (b : Bool) → nat_le max_id (k.issued channel) ≡ b
         → IsDue k (cond b (Refuses outcome.IdsSpent) (unless_long ask channel (k.issued channel + 1) (payload_of ask (k.issued channel + 1))))
     at true f = tt
     at false f =
         let left : k.issued channel < max_id = leb-false max_id (k.issued channel) f in
-        long-due k ask channel (k.issued channel + 1) (payload_of ask (k.issued channel + 1)) refl (omega arith)
+        long-due k ask channel (k.issued channel + 1) (payload_of ask (k.issued channel + 1)) new refl (omega arith)
 
 answer-due : (k : Known) (b : Built) → IsBuiltDue k b → IsDue k (answer_to k b)
 answer-due k (Refused o) h = tt
 answer-due k (NewWorker name budget) h = h
-answer-due k (Asked ask) h = channel-due k ask (channel_of k.slots ask.worker)
+answer-due k (Asked ask) h = channel-due k ask (channel_of k.slots ask.worker) h
 
 pub is_due : (k : Known) (o : Op) → IsDue k (answer k o)
 is_due k o = answer-due k (build k o) (build-is (IsBuiltDue k) (λ _. tt) k o (due-of k))

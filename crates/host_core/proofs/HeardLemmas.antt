@@ -1,5 +1,5 @@
 -- What a worker says is heard by the tables as by what is known.
-use Rattle.std.proofs.Common.{◌≡◌, ℕ, ◌-◌, List, [], ◌∷◌, Bool, true, false, not, ◌&&◌, ◌==◌, ◌⊎◌, inl, inr, cond, is_some, Option, Some, None, IfSome, refl, sym, ap, ◌∙◌, subst}
+use Rattle.std.proofs.Common.{◌≡◌, ℕ, List, [], ◌∷◌, Bool, true, false, not, ◌&&◌, ◌==◌, ◌⊎◌, inl, inr, cond, is_some, Option, Some, None, IfSome, refl, sym, ap, ◌∙◌, subst}
 use Rattle.std.proofs.lemmas.Bool.{and_parts, and_left, and_right, and_from, true≢false}
 use Rattle.ms_base.specs.declared.keys.CallKey.{CallKey}
 use Rattle.ms_base.specs.declared.keys.Serial.{Serial}
@@ -10,12 +10,11 @@ use Rattle.transcript.specs.declared.note.Note.TheVariants as note
 use Rattle.host_core.specs.State.{State, Object, Request, Slot, is_up_phase, is_up, up_slot, is_running, with_running, with_call_settled, pending, settled}
 use Rattle.host_notes.specs.Keys.{same_worker}
 use Rattle.host_core.specs.Laws.{IsSound}
-use Rattle.host_core.specs.LookUps.{ObjectsView, SlotsView, IsFresh, waiting_at, issued_by, made_by, makes_named}
+use Rattle.host_core.specs.LookUps.{ObjectsView, SlotsView, IsFresh, waiting_at, issued_by, is_making, makes_named}
 use Rattle.host_core.specs.Step.{noted, replied, replied_to, settled_by, ran, noticed, says_running, waiting_call_settled, heard, heard_by, step, Says}
 use Rattle.host_core.specs.Tables.{IsKept, Moves, Goes}
 use Rattle.host_core.specs.declared.requests.Requests.{Requests}
 use Rattle.host_core.specs.declared.tables.Tables.{Tables}
-use Rattle.host_core.specs.LookUps.{one_if}
 use Rattle.host_core.proofs.Keys.{worker-same}
 use Rattle.host_core.proofs.TablesLemmas.{objects-kept, slots-kept, settled-kept, one-waits, makes-fresh}
 
@@ -30,14 +29,14 @@ fresh-made s t w id r h k e (Some o) is =
 pub replied-goes : (t now : Tables) (w : WorkerKey) (id : ℕ) (a : AnswerView) (r : Request) (rs : Requests) → Some r ≡ waiting_at t.requests w id
     → ((v : WorkerKey) (i : ℕ) → waiting_at rs v i ≡ cond (same_worker w v && (id == i)) None (waiting_at t.requests v i))
     → ((v : WorkerKey) → issued_by rs v ≡ issued_by t.requests v)
-    → ((name : List ℕ) → made_by rs name ≡ made_by t.requests name - one_if (makes_named name (Some r)))
+    → ((name : List ℕ) → is_making rs name ≡ (not (makes_named name (Some r)) && is_making t.requests name))
     → (IfSome r.makes (IsFresh t.objects) → Moves (settled_by a r) (record t { requests = rs }) now) → Goes (replied w id a) t now
 replied-goes t now w id a r rs found waits counts makes settles = λ s h k.
     let e : pending s.requests w id ≡ Some r = sym (k.pending w id) ∙ sym found in
     let fresh : IfSome r.makes (IsFresh t.objects) = fresh-made s t w id r h k e r.makes refl in
     let kept : IsKept (record s { requests = settled w id s.requests }) (record t { requests = rs }) =
     settled-kept s t w id rs (one-waits s.requests h.numbered w id) waits counts
-    (λ name. makes name ∙ ap (λ (o : Option Request). made_by t.requests name - one_if (makes_named name o)) found) k in
+    (λ name. makes name ∙ ap (λ (o : Option Request). not (makes_named name o) && is_making t.requests name) found) k in
     subst (λ (o : Option Request). IsKept (replied_to o w id a s) now) (sym e) (settles fresh (record s { requests = settled w id s.requests }) kept)
 
 -- ---- a worker runs

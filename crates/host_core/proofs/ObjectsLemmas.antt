@@ -10,10 +10,10 @@ use Rattle.std.specs.BTreeMap.{BTreeMap, Updates}
 use Rattle.std.specs.Cmp.Lexicographic.{slice_cmp}
 use Rattle.std.specs.Ordering.{nat_cmp}
 use Rattle.std.specs.List.{find}
-use Rattle.std.specs.Option.{option_or}
+use Rattle.std.specs.Option.{option_or, unwrap_or}
 use Rattle.ms_base.specs.declared.keys.Serial.{Serial}
 use Rattle.host_core.proofs.IndexLemmas.{bytes-same, text-after}
-use Rattle.host_core.specs.Places.{AreIndexed, next_after, objects_in, object_at, serial_in, serial_of, as_running, IsFreePlace, greatest, raised}
+use Rattle.host_core.specs.Places.{AreIndexed, next_after, objects_in, object_at, serial_in, serial_of, as_running, IsFreePlace, greatest, later, raised}
 use Rattle.host_core.specs.LookUps.{IsFresh, ObjectsView}
 use Rattle.host_core.specs.State.{Object, as_serial, named, numbered, same_serial, is_running, run_if, with_object, with_running}
 
@@ -244,13 +244,9 @@ newest None false o h = refl
 newest (Some x) true o h = let less = not-less x.serial.0 o.serial.0 (h x refl) in rw less refl
 newest (Some x) false o h = refl
 
-either : (b : Bool) (s y : ℕ) (x : Option ℕ) → option_or (cond b (Some s) (Some y)) x ≡ cond b (Some s) (Some y)
-either true s y x = refl
-either false s y x = refl
-
 older : (n x : Option ℕ) (b : Bool) (s : ℕ) → ((y : ℕ) → x ≡ Some y → y < s) → option_or (cond b (greatest s n) n) x ≡ cond b (greatest s (option_or n x)) (option_or n x)
 older n x false s h = refl
-older (Some y) x true s h = either (nat_lt y s) s y x
+older (Some y) x true s h = refl
 older None None true s h = refl
 older None (Some y) true s h = let less = is-less y s (h y refl) in rw less refl
 
@@ -299,22 +295,27 @@ named-at ps names name s h e =
     let (x, there, number) = serial_in-some (named (objects_in ps) name) s (e ∙ h.serials name) in
     ap (numbered (objects_in ps)) (serial-is x.serial s number) ∙ (named-numbered 1 ps name x (placed ps names h) there ∙ sym there)
 
--- the name of an object has its serial, where this is the greatest
-abbrev pub outcome : Bool → ℕ → Option ℕ → Option ℕ
-outcome b serial other = cond b (Some serial) other
+-- the name of an object has the greater of its serial and the one that it had
+later-same : (serial : ℕ) (b : Bool) → cond b serial serial ≡ serial
+later-same serial true = refl
+later-same serial false = refl
 
-raised-at : (own name : List ℕ) (serial : ℕ) (before : List ℕ → Option ℕ) (t : Bool) → bytes_eq own name ≡ t → greatest serial (before own) ≡ Some serial
-    → cond t (Some serial) (before name) ≡ cond t (greatest serial (before name)) (before name)
-raised-at own name serial before true t g = sym (ap (λ (n : List ℕ). greatest serial (before n)) (sym (bytes-same own name t)) ∙ g)
-raised-at own name serial before false t g = refl
+later-is : (serial : ℕ) (before : Option ℕ) → Some (later serial (unwrap_or before serial)) ≡ greatest serial before
+later-is serial None = ap (λ n. Some n) (later-same serial (nat_lt serial serial))
+later-is serial (Some other) = refl
 
-pub raised-new : {Y : Type 0} (own : List ℕ) (serial : ℕ) (old new : BTreeMap (Vec ℕ Y) ℕ) (key : Vec ℕ Y) (b : Bool) → key.items ≡ own
-    → Updates (λ x y. slice_cmp nat_cmp x.items y.items) old new key (Some serial) → greatest serial (serial_of old own) ≡ outcome b serial (serial_of old own) → b ≡ true
+raised-at : (own name : List ℕ) (serial : ℕ) (now : Option ℕ) (before : List ℕ → Option ℕ) (t : Bool) → bytes_eq own name ≡ t → now ≡ greatest serial (before own)
+    → cond t now (before name) ≡ cond t (greatest serial (before name)) (before name)
+raised-at own name serial now before true t g = g ∙ ap (λ (n : List ℕ). greatest serial (before n)) (bytes-same own name t)
+raised-at own name serial now before false t g = refl
+
+pub raised-new : {Y : Type 0} (own : List ℕ) (serial : ℕ) (old new : BTreeMap (Vec ℕ Y) ℕ) (key : Vec ℕ Y) (value : ℕ) → key.items ≡ own
+    → value ≡ later serial (unwrap_or (serial_of old key.items) serial) → Updates (λ x y. slice_cmp nat_cmp x.items y.items) old new key (Some value)
     → (name : List ℕ) → serial_of new name ≡ raised own serial name (serial_of old name)
-raised-new {Y} own serial old new key b named_so updates g t name =
-    text-after (λ (k : Vec ℕ Y). k.items) key.items old new (Some serial) updates name
-    ∙ (ap (λ (n : List ℕ). cond (bytes_eq n name) (Some serial) (serial_of old name)) named_so
-    ∙ raised-at own name serial (serial_of old) (bytes_eq own name) refl (g ∙ ap (λ (c : Bool). outcome c serial (serial_of old own)) t))
+raised-new {Y} own serial old new key value named_so is updates name =
+    text-after (λ (k : Vec ℕ Y). k.items) key.items old new (Some value) updates name
+    ∙ (raised-at key.items name serial (Some value) (serial_of old) (bytes_eq key.items name) refl (ap (λ n. Some n) is ∙ later-is serial (serial_of old key.items))
+    ∙ ap (λ (n : List ℕ). raised n serial name (serial_of old name)) named_so)
 
 -- ---- what a change leaves of the invariant, and how the places are seen then
 

@@ -19,7 +19,7 @@ use Rattle.host_core.specs.Apply.{is_unbuilt}
 use Rattle.host_core.specs.Laws.{HasDrawn}
 use Rattle.host_core.specs.LookUps.{SlotsView, shown_of, unread_of}
 use Rattle.host_core.specs.Run.{Journal, HostView, with_entry, after, state_of, notes_of, transcript_of}
-use Rattle.host_core.specs.State.{State, start, Object, Owner, Call, Entered, Slot, is_to_make, is_up, stream_of}
+use Rattle.host_core.specs.State.{State, start, Object, Owner, Call, Entered, Slot, is_up, stream_of}
 use Rattle.host_core.specs.Step.{Micro, step, made, owner_settled, waiting_call_settled}
 use Rattle.host_core.specs.Tables.{BreaksNone, HasRoom, IsHeld, IsKept, IsRun}
 use Rattle.host_core.specs.declared.readers.Readers.{Readers}
@@ -131,7 +131,6 @@ run-room j spent size t r drawn unspent run =
         from_one = omega (arith, k.next, drawn.from_one);
         next = omega (arith, k.next, drawn.serials, few);
       };
-      names = λ name. omega (arith, k.being_made name, count_by-le-length (is_to_make name) s.requests, drawn.requests, few);
       calls = λ lane. omega (arith, k.calls lane, count_by-le-length (λ (c : Entered). c.key.lane == lane) s.calls, drawn.calls, few);
     }
 

@@ -1,5 +1,5 @@
 -- The tables go with what is known, change by change.
-use Rattle.std.proofs.Common.{◌≡◌, ◌≤◌, ◌<◌, ℕ, zero, suc, ◌+◌, ◌-◌, nat_le, nat_lt, List, [], ◌∷◌, ◌++◌, length, take, Bool, true, false, not, ◌&&◌, ◌==◌, cond, Option, Some, None, refl, sym, ap, ◌∙◌, subst, subst₂, arith, add-zero, count_by, take-take, take_all, length-take}
+use Rattle.std.proofs.Common.{◌≡◌, ◌≤◌, ◌<◌, ℕ, zero, suc, ◌+◌, nat_le, nat_lt, List, [], ◌∷◌, ◌++◌, length, take, Bool, true, false, not, ◌&&◌, ◌||◌, ◌==◌, cond, Option, Some, None, refl, sym, ap, ◌∙◌, subst, subst₂, arith, add-zero, count_by, take-take, take_all, length-take}
 use Rattle.std.specs.List.{filter, find}
 use Rattle.std.specs.Option.{option_or}
 use Rattle.std.proofs.lemmas.Bool.{eqb-true, and_parts, and_left, and_right, not-true, true≢false}
@@ -12,7 +12,7 @@ use Rattle.ms_base.specs.declared.keys.WorkerKey.{WorkerKey}
 use Rattle.transcript.specs.declared.note.Note.{Note}
 use Rattle.transcript.specs.declared.note.Note.TheVariants as note
 use Rattle.host_core.specs.Answer.{known, makes}
-use Rattle.host_core.specs.LookUps.{ObjectsView, SlotsView, IsFresh, counted, waiting_at, issued_by, made_by, makes_named, one_if}
+use Rattle.host_core.specs.LookUps.{ObjectsView, SlotsView, IsFresh, counted, waiting_at, issued_by, is_making, made_by, makes_named, one_if}
 use Rattle.host_core.specs.State.{State, with_object, Object, Request, Slot, Entered, calls_of, next_call, as_serial, numbered, has_name, is_to_make, waits_as, pending, settled, issued, being_made}
 use Rattle.host_notes.specs.Keys.{same_worker}
 use Rattle.host_core.specs.Step.{noted, opened, object_added, request_issued, serials_drawn, call_entered}
@@ -196,18 +196,25 @@ requests-are s t rs qs waits counts makes k = record {
   notes = k.notes;
 }
 
+joined : (b m : Bool) → (b ≡ true → one_if m ≡ 0) → one_if (b || m) ≡ one_if m + one_if b
+joined true m h = ap (λ n. n + 1) (sym (h refl))
+joined false m h = sym (add-zero (one_if m))
+
 pub issued-kept : (s : State) (t : Tables) (r : Request) (rs : Requests) → r.settled ≡ false → waiting_at t.requests r.channel r.id ≡ None
     → ((w : WorkerKey) (id : ℕ) → waiting_at rs w id ≡ cond (same_worker r.channel w && (r.id == id)) (Some r) (waiting_at t.requests w id))
     → ((w : WorkerKey) → issued_by rs w ≡ cond (same_worker r.channel w) (issued_by t.requests w + 1) (issued_by t.requests w))
-    → ((name : List ℕ) → made_by rs name ≡ made_by t.requests name + one_if (has_name name r.makes))
+    → ((name : List ℕ) → has_name name r.makes ≡ true → made_by t.requests name ≡ 0)
+    → ((name : List ℕ) → is_making rs name ≡ (has_name name r.makes || is_making t.requests name))
     → IsKept s t → IsKept (record s { requests = s.requests ++ r ∷ [] }) (record t { requests = rs })
-issued-kept s t r rs fresh free waits counts makes k =
+issued-kept s t r rs fresh free waits counts new makes k =
     requests-are s t (s.requests ++ r ∷ []) rs
     (λ w id.
     waits w id ∙ ap (cond (same_worker r.channel w && (r.id == id)) (Some r)) (k.pending w id)
     ∙ pending-more s.requests r fresh w id (sym (k.pending r.channel r.id) ∙ free))
     (λ w. counts w ∙ ap (λ n. cond (same_worker r.channel w) (n + 1) n) (k.issued w) ∙ sym (issued-more s.requests r fresh w))
-    (λ name. makes name ∙ ap (λ n. n + one_if (has_name name r.makes)) (k.being_made name) ∙ sym (being_made-more s.requests r fresh name)) k
+    (λ name.
+    ap one_if (makes name) ∙ joined (has_name name r.makes) (is_making t.requests name) (new name)
+    ∙ ap (λ n. n + one_if (has_name name r.makes)) (k.being_made name) ∙ sym (being_made-more s.requests r fresh name)) k
 
 -- ---- a request that is settled
 
@@ -282,23 +289,25 @@ module _ (w : WorkerKey) (id : ℕ) where
               subst₂ (λ (u : WorkerKey) (j : ℕ). (same_worker u v && (j == i) && not r.settled) ≡ false) (sym (worker-same r.channel w keys.0)) (sym (eqb-true r.id id keys.1))
               (and_left (same_worker w v && (id == i)) (not r.settled) e)
 
-less : (a b c n : ℕ) → a + b ≡ c → n ≡ c - b → n ≡ a
-less a b c n e f = omega arith
+left : (b m : Bool) (n : ℕ) → n + one_if b ≡ one_if m → one_if (not b && m) ≡ n
+left true true n h = omega arith
+left true false n h = absurd (omega arith)
+left false m n h = sym h ∙ add-zero n
 
 pub settled-kept : (s : State) (t : Tables) (w : WorkerKey) (id : ℕ) (rs : Requests) → count_by (waits_as w id) s.requests ≤ 1
     → ((v : WorkerKey) (i : ℕ) → waiting_at rs v i ≡ cond (same_worker w v && (id == i)) None (waiting_at t.requests v i))
     → ((v : WorkerKey) → issued_by rs v ≡ issued_by t.requests v)
-    → ((name : List ℕ) → made_by rs name ≡ made_by t.requests name - one_if (makes_named name (waiting_at t.requests w id)))
+    → ((name : List ℕ) → is_making rs name ≡ (not (makes_named name (waiting_at t.requests w id)) && is_making t.requests name))
     → IsKept s t → IsKept (record s { requests = settled w id s.requests }) (record t { requests = rs })
 settled-kept s t w id rs once waits counts makes k =
     requests-are s t (settled w id s.requests) rs
     (λ v i. waits v i ∙ ap (cond (same_worker w v && (id == i)) None) (k.pending v i) ∙ pending-settled w id s.requests once v i)
     (λ v. counts v ∙ k.issued v ∙ sym (issued-settled w id v s.requests))
     (λ name.
-    less (being_made (settled w id s.requests) name) (one_if (makes_named name (pending s.requests w id))) (being_made s.requests name) (made_by rs name)
-    (being_made-settled w id name s.requests)
-    (makes name ∙ ap (λ (o : Option Request). made_by t.requests name - one_if (makes_named name o)) (k.pending w id)
-    ∙ ap (λ n. n - one_if (makes_named name (pending s.requests w id))) (k.being_made name))) k
+    ap one_if (makes name)
+    ∙ ap (λ (o : Option Request). one_if (not (makes_named name o) && is_making t.requests name)) (k.pending w id)
+    ∙ left (makes_named name (pending s.requests w id)) (is_making t.requests name) (being_made (settled w id s.requests) name)
+    (being_made-settled w id name s.requests ∙ sym (k.being_made name))) k
 
 -- ---- what is sound
 
@@ -334,8 +343,8 @@ module _ (rs : List Request) (h : AreNumbered rs) (w : WorkerKey) where
       find-none (waits_as w id) rs
       (omega (arith, count-weaker (waits_as w id) (λ (r : Request). same_worker r.channel w && (r.id == id)) (waits-parts w id) rs, count-id id, none))
 
-abbrev is_making : ℕ → Request → Bool
-is_making n r = not r.settled && makes_serial n r.makes
+abbrev makes_as : ℕ → Request → Bool
+makes_as n r = not r.settled && makes_serial n r.makes
 
 drawn-some : (b : Bool) (c : ℕ) → c + 1 ≤ one_if b → (b ≡ true) × (c ≡ 0)
 drawn-some true c h = (refl, omega arith)
@@ -360,8 +369,8 @@ module _ (s : State) (h : IsSound s) where
       let n = o.serial.0 in
       let found = count-found (waits_as w id) s.requests r e in
       let open_now : r.settled ≡ false = not-true r.settled (and_parts (same_worker r.channel w && (r.id == id)) (not r.settled) found.0).1 in
-      let making : is_making n r ≡ true = not-and r.settled (makes_serial n r.makes) open_now ∙ ap (makes_serial n) is ∙ same-itself n in
-      let some : 1 ≤ count_by (is_making n) s.requests = found-counts (is_making n) making s.requests e in
+      let making : makes_as n r ≡ true = not-and r.settled (makes_serial n r.makes) open_now ∙ ap (makes_serial n) is ∙ same-itself n in
+      let some : 1 ≤ count_by (makes_as n) s.requests = found-counts (makes_as n) making s.requests e in
       let drawn = drawn-some (is_drawn s n) (count_by (has_serial n) s.objects) (omega (arith, h.drawn_once n, some)) in
       let parts = drawn-parts n s.next drawn.0 in
       record { from_one = parts.0; drawn = parts.1; none = find-none (has_serial n) s.objects drawn.1 }
@@ -406,10 +415,11 @@ pub request_issued-moves : (t mid now : Tables) (r : Request) (payload : List �
     → (made : Option Object) → made ≡ r.makes → mid ≡ record t { objects = record t.objects { next = t.objects.next + serials_drawn made } }
     → ((w : WorkerKey) (id : ℕ) → waiting_at rs w id ≡ cond (same_worker r.channel w && (r.id == id)) (Some r) (waiting_at mid.requests w id))
     → ((w : WorkerKey) → issued_by rs w ≡ cond (same_worker r.channel w) (issued_by mid.requests w + 1) (issued_by mid.requests w))
-    → ((name : List ℕ) → made_by rs name ≡ made_by mid.requests name + one_if (has_name name r.makes))
+    → ((name : List ℕ) → has_name name r.makes ≡ true → made_by t.requests name ≡ 0)
+    → ((name : List ℕ) → is_making rs name ≡ (has_name name r.makes || is_making mid.requests name))
     → n ≡ note.Sent r.channel payload → Moves (noted n) (record mid { requests = rs }) now
     → waiting_at t.requests r.channel r.id ≡ None → Moves (request_issued r payload) t now
-request_issued-moves t mid now r payload rs n fresh made same drawn_as waits counts makes_ e moves free = λ s k.
+request_issued-moves t mid now r payload rs n fresh made same drawn_as waits counts new makes_ e moves free = λ s k.
     let drawn : mid ≡ record t { objects = record t.objects { next = t.objects.next + serials_drawn r.makes } } =
     drawn_as ∙ ap (λ (m : Option Object). let x : Tables = record t { objects = record t.objects { next = t.objects.next + serials_drawn m } } in x) same in
     let after : State = record s { requests = s.requests ++ r ∷ []; next = s.next + serials_drawn r.makes } in
@@ -417,4 +427,5 @@ request_issued-moves t mid now r payload rs n fresh made same drawn_as waits cou
     let kept : IsKept (record s { next = s.next + serials_drawn r.makes }) mid =
     subst (λ (m : Tables). IsKept (record s { next = s.next + serials_drawn r.makes }) m) (sym drawn) (drawn_for-kept s t (serials_drawn r.makes) k) in
     subst (λ (m : Note). IsKept (noted m after) now) e
-    (moves after (issued-kept (record s { next = s.next + serials_drawn r.makes }) mid r rs fresh free_now waits counts makes_ kept))
+    (moves after (issued-kept (record s { next = s.next + serials_drawn r.makes }) mid r rs fresh free_now waits counts
+    (λ name named. ap (λ (m : Tables). made_by m.requests name) drawn ∙ new name named) makes_ kept))

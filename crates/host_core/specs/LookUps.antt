@@ -3,7 +3,8 @@
 use Rattle.std.specs.Prelude.{◌≡◌, ◌≤◌, ◌<◌, ℕ, List, [], length, map, Bool, true, false, if◌then◌else◌, Option, Some, None, option_map, option_and_then, slice_get, Box, Vec, vec_capacity, unwrap_or, nat_eq, ◌&&◌, zero, suc}
 use Rattle.std.specs.Cmp.Lexicographic.{slice_cmp}
 use Rattle.std.specs.Ordering.{nat_cmp}
-use Rattle.std.specs.BTreeMap.{get_by, get}
+use Rattle.std.specs.BTreeMap.{get}
+use Rattle.std.specs.BTreeSet.{contains_by}
 use Rattle.std.specs.HashMap as hash
 use Rattle.ms_base.specs.declared.keys.WorkerKey.{WorkerKey}
 use Rattle.channel_frames.specs.Reading.{Reading}
@@ -59,11 +60,16 @@ waiting_at r w id = waiting_in (places_of (hash.get same_channel r.channels (w.s
 abbrev pub issued_by : Requests → WorkerKey → ℕ
 issued_by r w = length (places_of (hash.get same_channel r.channels (w.slot, w.generation)))
 
-abbrev pub count_of : NamesBeingMade → List ℕ → ℕ
-count_of n name = unwrap_or (get_by (λ k. slice_cmp nat_cmp name k.items) n.counts) 0
+abbrev pub is_among : NamesBeingMade → List ℕ → Bool
+is_among n name = contains_by (λ k. slice_cmp nat_cmp name k.items) n.items
 
+-- a request is to make an object of the name
+abbrev pub is_making : Requests → List ℕ → Bool
+is_making r name = is_among r.names name
+
+-- and how many are: one at most
 abbrev pub made_by : Requests → List ℕ → ℕ
-made_by r name = count_of r.names name
+made_by r name = one_if (is_making r name)
 
 abbrev pub makes_named : List ℕ → Option Request → Bool
 makes_named name None = false

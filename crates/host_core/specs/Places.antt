@@ -44,10 +44,14 @@ pub record IsFreePlace (places : List (Option Object)) (serial : Serial) (place 
   pub number : serial.0 ≡ place + 1
   pub empty : slice_get places place ≡ Some None
 
+-- the greater of two serials
+abbrev pub later : ℕ → ℕ → ℕ
+later serial other = if nat_lt other serial then serial else other
+
 -- the greater of a serial and another, if there is one
 abbrev pub greatest : ℕ → Option ℕ → Option ℕ
 greatest serial None = Some serial
-greatest serial (Some other) = if nat_lt other serial then Some serial else Some other
+greatest serial (Some other) = Some (later serial other)
 
 -- the serial of a name after an object of this name and serial came, which was another before
 abbrev pub raised : List ℕ → ℕ → List ℕ → Option ℕ → Option ℕ

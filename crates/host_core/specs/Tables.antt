@@ -1,6 +1,6 @@
 -- How the code keeps what the host knows: unsettled requests alone, counts by channel and by lane, and of each stream
 -- what waits for the rest of its frame. This project's own.
-use Rattle.std.specs.Prelude.{◌≡◌, ◌≤◌, ◌<◌, ◌+◌, ◌^◌, ℕ, List, length, map, take, Bool, false, None, option_map, ⊤, ◌++◌, ◌&&◌}
+use Rattle.std.specs.Prelude.{◌≡◌, ◌≤◌, ◌<◌, ◌+◌, ◌^◌, ℕ, List, length, map, take, Bool, true, false, Option, None, option_map, ⊤, ◌++◌, ◌&&◌}
 use Rattle.serde_json.specs.View.{view}
 use Rattle.serde_json.specs.Written.{has_float}
 use Rattle.ms_base.specs.declared.keys.WorkerKey.{WorkerKey}
@@ -10,7 +10,7 @@ use Rattle.channel_frames.specs.Frames.{max_payload, rest_of, is_broken}
 use Rattle.channel_msgs.specs.Json.{request_json}
 use Rattle.channel_msgs.specs.Read.{max_id}
 use Rattle.journal_text.specs.Written.{journal_size, max_journal}
-use Rattle.host_core.specs.State.{State, numbered, as_serial, pending, issued, being_made, calls_of, stream_of, is_up}
+use Rattle.host_core.specs.State.{State, Object, numbered, as_serial, has_name, pending, issued, being_made, calls_of, stream_of, is_up}
 use Rattle.host_core.specs.Answer as answers
 use Rattle.host_core.specs.Answer.{Known, max_slots}
 use Rattle.host_core.specs.Laws.{IsSound}
@@ -75,14 +75,9 @@ pub record HasSerial (t : Tables) : Type 0 where
   pub from_one : 1 ≤ t.objects.next
   pub next : t.objects.next + 1 < 2 ^ 32
 
--- so many requests may wait for an object of one name
-abbrev pub HasNames : Tables → Type 0
-HasNames t = (name : List ℕ) → made_by t.requests name + 1 < 2 ^ 64
-
 -- the numbers that the next micro step draws fit their types
 pub record HasRoom (t : Tables) : Type 0 where
   pub serial : HasSerial t
-  pub names : HasNames t
   pub calls : (lane : ℕ) → counted t.calls lane + 1 < 2 ^ 32
 
 -- What is shown is as it was: the notes of before stand first, and of the slots is shown what was shown.
@@ -99,11 +94,15 @@ HasNoFloat (answers.NewWorker name budget) = ⊤
 HasNoFloat (answers.Asked ask) =
     (id : ℕ) → has_float (request_json (record { id = id; method = ask.method; ids = ask.ids; content = ask.content })) ≡ false
 
--- its numbers fit
+-- no request is to make an object of its name
+abbrev pub IsNew : Known → Option Object → Type 0
+IsNew k makes = (name : List ℕ) → has_name name makes ≡ true → k.being_made name ≡ 0
+
+-- its numbers fit, and what it is to make has a name of its own
 abbrev pub IsDue : Known → answers.Answer → Type 0
 IsDue k (answers.Refuses outcome) = ⊤
 IsDue k (answers.AddsWorker name budget) = length k.slots < max_slots
-IsDue k (answers.Issues under makes channel id payload) = (id ≡ k.issued channel + 1) × (id ≤ max_id) × (length payload ≤ max_payload)
+IsDue k (answers.Issues under makes channel id payload) = (id ≡ k.issued channel + 1) × (id ≤ max_id) × (length payload ≤ max_payload) × IsNew k makes
 
 -- no object has its serial, and no request its id
 abbrev pub IsFree : Tables → answers.Answer → Type 0

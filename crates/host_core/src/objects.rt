@@ -1,6 +1,6 @@
 ghost use Rattle.std.specs.Prelude.{◌≡◌, ◌⊎◌, ◌+◌, ◌^◌, ◌<◌, ℕ, List, [], OnOk, OnErr, IfOk, MatchOption, Some, true, option_copied, if◌then◌else◌};
 ghost use Rattle.host_core.specs.LookUps.{IsFresh};
-ghost use Rattle.host_core.specs.Places.{IsFreePlace, as_running, greatest, object_at, raised, serial_of};
+ghost use Rattle.host_core.specs.Places.{IsFreePlace, as_running, later, object_at, raised, serial_of};
 ghost use Rattle.host_core.specs.State.{named, is_running, with_object, with_running};
 
 use ms_base::{Id, Kind, Name, NoMemory, Reason, Serial};
@@ -161,23 +161,17 @@ fn raise(alloc: Global, object: &Object, names: &mut BTreeMap<Vec<u8>, u32>) -> 
     ensures ok { OnOk result ((name : List ℕ) → serial_of names.new name ≡ raised object.now.name object.now.serial.0 name (serial_of names.old name)) }
     ensures err { OnErr result ((name : List ℕ) → serial_of names.new name ≡ serial_of names.old name) }
 {
-    let name = object.name.as_slice();
-    let serial = object.serial.0;
-    let before = names.get(name).copied();
-    if is_greatest(serial, before) {
-        names.insert(Vec::from_slice(alloc, name)?, serial)?;
-    }
+    let name = Vec::from_slice(alloc, object.name.as_slice())?;
+    let serial = names.entry(name)?.or_insert(object.serial.0);
+    *serial = later(object.serial.0, *serial);
     Ok(())
 }
 
-// Whether a serial is greater than another, if there is one.
-fn is_greatest(serial: u32, other: Option<u32>) -> bool
-    ensures { greatest serial other ≡ (if result then Some serial else other) }
+// The greater of two serials.
+fn later(serial: u32, other: u32) -> u32
+    ensures { result ≡ later serial other }
 {
-    match other {
-        Some(other) => other < serial,
-        None => true,
-    }
+    if other < serial { serial } else { other }
 }
 
 // The object that stands at a place is running.

@@ -1,5 +1,5 @@
-ghost use Rattle.std.specs.Prelude.{◌≡◌, ℕ, ◌+◌, ◌-◌, ◌^◌, ◌<◌, ◌&&◌, ◌==◌, List, length, Some, None, OnOk, if◌then◌else◌};
-ghost use Rattle.host_core.specs.LookUps.{waiting_at, waiting_in, issued_by, made_by, one_if};
+ghost use Rattle.std.specs.Prelude.{◌≡◌, ℕ, ◌+◌, ◌&&◌, ◌||◌, ◌==◌, not, true, false, List, length, Some, None, OnOk, if◌then◌else◌};
+ghost use Rattle.host_core.specs.LookUps.{waiting_at, waiting_in, issued_by, is_making, makes_named};
 ghost use Rattle.host_core.specs.State.{has_name};
 ghost use Rattle.host_notes.specs.Keys.{same_worker};
 ghost use Rattle.ms_base.specs.declared.keys.WorkerKey.{WorkerKey};
@@ -44,7 +44,7 @@ pub(crate) struct Requests {
     /// By the slot and the generation of the channel: a place for each request that was issued, in the order of their
     /// ids, which are 1, 2, 3 and so on. It is empty once the request has its response.
     channels: HashMap<(u32, u32), Vec<Option<Box<Request>>>>,
-    /// The names that those without a response are to make.
+    /// The names of the objects that those without a response are to make.
     names: NamesBeingMade,
 }
 
@@ -52,7 +52,7 @@ impl Requests {
     pub(crate) fn new(alloc: Global) -> Requests
         ensures waiting { (w : WorkerKey) (id : ℕ) → waiting_at result w id ≡ None }
         ensures issued { (w : WorkerKey) → issued_by result w ≡ 0 }
-        ensures made { (name : List ℕ) → made_by result name ≡ 0 }
+        ensures made { (name : List ℕ) → is_making result name ≡ false }
     {
         Requests {
             alloc,
@@ -73,21 +73,20 @@ impl Requests {
 
     /// Whether a request without a response is to make an object of this name.
     pub(crate) fn is_making(&self, name: &[u8]) -> bool
-        ensures { result ≡ Rattle.std.specs.Prelude.nat_lt 0 (made_by self.now name.now) }
+        ensures { result ≡ is_making self.now name.now }
     {
-        self.names.count(name) > 0
+        self.names.contains(name)
     }
 
     /// Adds the next request of its channel.
     pub(crate) fn issue(&mut self, request: Request) -> Result<(), NoMemory>
         requires next { request.id ≡ issued_by self.old request.channel + 1 }
-        requires names { (name : List ℕ) → made_by self.old name + 1 < 2 ^ 64 }
         ensures waiting { OnOk result ((w : WorkerKey) (id : ℕ) → waiting_at self.new w id ≡ (if same_worker request.channel w && request.id == id then Some request else waiting_at self.old w id)) }
         ensures issued { OnOk result ((w : WorkerKey) → issued_by self.new w ≡ (if same_worker request.channel w then issued_by self.old w + 1 else issued_by self.old w)) }
-        ensures made { OnOk result ((name : List ℕ) → made_by self.new name ≡ made_by self.old name + one_if (has_name name request.makes)) }
+        ensures made { OnOk result ((name : List ℕ) → is_making self.new name ≡ (has_name name request.makes || is_making self.old name)) }
     {
         let channel = (request.channel.slot, request.channel.generation);
-        self.names.raise(self.alloc, &request.makes)?;
+        self.names.add(self.alloc, &request.makes)?;
         let request = Box::new(self.alloc, request)?;
         match self.channels.get_mut(&channel) {
             Some(places) => places.push(Some(request))?,
@@ -105,11 +104,11 @@ impl Requests {
         ensures found { result ≡ waiting_at self.old worker id }
         ensures waiting { (w : WorkerKey) (i : ℕ) → waiting_at self.new w i ≡ (if same_worker worker w && id == i then None else waiting_at self.old w i) }
         ensures issued { (w : WorkerKey) → issued_by self.new w ≡ issued_by self.old w }
-        ensures made { (name : List ℕ) → made_by self.new name ≡ made_by self.old name - one_if (Rattle.host_core.specs.LookUps.makes_named name result) }
+        ensures made { (name : List ℕ) → is_making self.new name ≡ (not (makes_named name result) && is_making self.old name) }
     {
         let places = self.channels.get_mut(&(worker.slot, worker.generation))?;
         let request = take_at(places, id)?;
-        self.names.lower(&request.makes);
+        self.names.remove(&request.makes);
         Some(request)
     }
 }

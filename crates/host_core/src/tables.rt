@@ -8,7 +8,7 @@ ghost use Rattle.host_core.specs.LookUps.{IsFresh, issued_by, waiting_at};
 ghost use Rattle.host_notes.specs.Sent.{IsShort};
 ghost use Rattle.host_core.specs.State.{start, up_slot, numbered, as_serial};
 ghost use Rattle.host_core.specs.Step.{answered, called, heard, noted, noticed, object_added, ran, replied, request_issued, says_running, serials_drawn, settled_by, started, step, worker_wanted, Says};
-ghost use Rattle.host_core.specs.Tables.{answer_view, known_of, IsDue, IsFree, IsKept, Goes, Moves, HasNames, HasRoom, HasSerial, ShowsTheSame};
+ghost use Rattle.host_core.specs.Tables.{answer_view, known_of, IsDue, IsFree, IsKept, IsNew, Goes, Moves, HasRoom, HasSerial, ShowsTheSame};
 
 use crate::answer::Answer as CallAnswer;
 use crate::calls::Calls;
@@ -64,7 +64,6 @@ impl Tables {
     // What a call comes to is done.
     fn follow(&mut self, call: CallKey, answer: CallAnswer) -> Result<(), NoMemory>
         requires serial { HasSerial self.old }
-        requires names { HasNames self.old }
         requires due { IsDue (known_of self.old) (answer_view answer) }
         ensures ok { OnOk result (IsFree self.old (answer_view answer) → Moves (answered call (answer_view answer)) self.old self.new) }
         ensures shown { ShowsTheSame self.old self.new }
@@ -137,7 +136,7 @@ impl Tables {
     fn issue(&mut self, request: Request, payload: Bytes) -> Result<(), NoMemory>
         requires id { request.id ≡ issued_by self.old.requests request.channel + 1 }
         requires short { length payload ≤ max_payload }
-        requires names { HasNames self.old }
+        requires names { IsNew (known_of self.old) request.makes }
         ensures ok { OnOk result (waiting_at self.old.requests request.channel request.id ≡ None → Moves (request_issued request payload) self.old self.new) }
         ensures shown { ShowsTheSame self.old self.new }
     {

@@ -1,65 +1,53 @@
-ghost use Rattle.std.specs.Prelude.{◌≡◌, ℕ, ◌+◌, ◌-◌, ◌^◌, ◌<◌, List, OnOk};
-ghost use Rattle.host_core.specs.LookUps.{count_of, one_if};
+ghost use Rattle.std.specs.Prelude.{◌≡◌, ℕ, ◌&&◌, ◌||◌, not, false, List, OnOk};
+ghost use Rattle.host_core.specs.LookUps.{is_among};
 ghost use Rattle.host_core.specs.State.{has_name};
 
 use crate::objects::Object;
 use ms_base::NoMemory;
 use std::alloc::Global;
-use std::collections::BTreeMap;
+use std::collections::BTreeSet;
 
-/// How many requests without a response are to make an object of each name. A name that none is to make any more is
-/// taken out.
+/// The names of the objects that requests without a response are to make. No two are to make one of the same name.
 #[derive(Debug, Drop)]
 pub(crate) struct NamesBeingMade {
-    counts: BTreeMap<Vec<u8>, usize>,
+    items: BTreeSet<Vec<u8>>,
 }
 
 impl NamesBeingMade {
     pub(crate) fn new(alloc: Global) -> NamesBeingMade
-        ensures { (name : List ℕ) → count_of result name ≡ 0 }
+        ensures { (name : List ℕ) → is_among result name ≡ false }
     {
         NamesBeingMade {
-            counts: BTreeMap::new(alloc),
+            items: BTreeSet::new(alloc),
         }
     }
 
-    /// How many are to make an object of this name.
-    pub(crate) fn count(&self, name: &[u8]) -> usize
-        ensures { result ≡ count_of self.now name.now }
+    /// Whether a request is to make an object of this name.
+    pub(crate) fn contains(&self, name: &[u8]) -> bool
+        ensures { result ≡ is_among self.now name.now }
     {
-        self.counts.get(name).copied().unwrap_or(0)
+        self.items.contains(name)
     }
 
-    /// Counts one more of the name of the object that a request is to make, if it is to make one.
-    pub(crate) fn raise(&mut self, alloc: Global, made: &Option<Object>) -> Result<(), NoMemory>
-        requires { (name : List ℕ) → count_of self.old name + 1 < 2 ^ 64 }
-        ensures { OnOk result ((name : List ℕ) → count_of self.new name ≡ count_of self.old name + one_if (has_name name made.now)) }
+    /// Adds the name of the object that a request is to make, if it is to make one.
+    pub(crate) fn add(&mut self, alloc: Global, made: &Option<Object>) -> Result<(), NoMemory>
+        ensures { OnOk result ((name : List ℕ) → is_among self.new name ≡ (has_name name made.now || is_among self.old name)) }
     {
         let Some(object) = made else {
             return Ok(());
         };
-        let name = object.name.as_slice();
-        match self.counts.get_mut(name) {
-            Some(count) => *count += 1,
-            None => {
-                self.counts.insert(Vec::from_slice(alloc, name)?, 1)?;
-            }
-        }
+        let name = Vec::from_slice(alloc, object.name.as_slice())?;
+        self.items.insert(name)?;
         Ok(())
     }
 
-    /// Counts one less of the name of the object that a request was to make, if it was to make one.
-    pub(crate) fn lower(&mut self, made: &Option<Object>)
-        ensures { (name : List ℕ) → count_of self.new name ≡ count_of self.old name - one_if (has_name name made.now) }
+    /// Takes out the name of the object that a request was to make, if it was to make one.
+    pub(crate) fn remove(&mut self, made: &Option<Object>)
+        ensures { (name : List ℕ) → is_among self.new name ≡ (not (has_name name made.now) && is_among self.old name) }
     {
         let Some(object) = made else {
             return;
         };
-        let name = object.name.as_slice();
-        if self.count(name) <= 1 {
-            self.counts.remove(name);
-        } else if let Some(count) = self.counts.get_mut(name) {
-            *count -= 1;
-        }
+        self.items.remove(object.name.as_slice());
     }
 }

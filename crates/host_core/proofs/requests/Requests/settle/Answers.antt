@@ -1,4 +1,4 @@
-use Rattle.std.proofs.Common.{◌≡◌, ◌==◌, None, length, cond, is_some, sym, ap, ◌∙◌}
+use Rattle.std.proofs.Common.{◌==◌, None, length, cond, is_some, sym, ap, ◌∙◌}
 use Rattle.host_core.specs.LookUps.{places_of, waiting_in}
 use Rattle.host_core.proofs.IndexLemmas.{written}
 use Rattle.host_core.proofs.RequestsLemmas.{waits-at, counts-same}

@@ -10,6 +10,6 @@ returns-clause-ok c =
     on_ok_weaker c.note.result
     (request_issued-moves c.args.self.now c.draw_for.new.self c.note.new.self c.args.request c.args.payload c.issue.new.self _
     (ap (λ (r : Request). r.settled) (sym c.request.view_is)) c.request.inside.makes (ap (λ (r : Request). r.makes) c.request.view_is) c.in_ok-draw_for.ensures.ok
-    c.in_ok-issue.ensures.waiting c.in_ok-issue.ensures.issued c.in_ok-issue.ensures.made
+    c.in_ok-issue.ensures.waiting c.in_ok-issue.ensures.issued c.requires.names c.in_ok-issue.ensures.made
     (ap (λ (r : Request). note.Sent r.channel c.args.payload) c.request.view_is))
     c.note.ensures.ok
