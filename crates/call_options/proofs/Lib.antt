@@ -1,0 +1,2 @@
+mod IpLemmas
+mod LawLemmas
