@@ -1,0 +1,3 @@
+pub mod MethodLemmas
+pub mod BackLemmas
+pub mod WholeLemmas

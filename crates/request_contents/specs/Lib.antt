@@ -1,0 +1,4 @@
+pub mod Methods
+pub mod Values
+pub mod Laws
+pub mod Rows
