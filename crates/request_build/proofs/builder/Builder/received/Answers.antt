@@ -1,0 +1,6 @@
+use Rattle.std.proofs.Common.{◌≤◌, length, sym}
+use Rattle.request_build.proofs.KeptLemmas.{looked_up}
+use Rattle.request_build.proofs.builder.Builder.received.Goals as goal
+
+pub returns-in-Some-clause-few : goal.returns-in-Some-clause-few
+returns-in-Some-clause-few c = looked_up (λ p. length p.encodings ≤ 8) _ _ _ c.self.invariant.few.consumers (sym c.in-Some.ensures)
