@@ -1,0 +1,7 @@
+mod ByIdLemmas
+mod ListLemmas
+mod PassLemmas
+mod TableLemmas
+mod RouterLemmas
+mod CloseLemmas
+mod AddLemmas

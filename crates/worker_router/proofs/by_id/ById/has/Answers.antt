@@ -1,0 +1,6 @@
+use Rattle.std.proofs.Common.{ap, ◌∙◌, is_some}
+use Rattle.worker_router.proofs.ByIdLemmas.{found}
+use Rattle.worker_router.proofs.by_id.ById.has.Goals as goal
+
+pub returns : goal.returns
+returns g c = c.contains_key.ensures ∙ ap is_some (found g.T.HasId.id_of c.args.id c.self.inside.items c.args.self.now c.self.invariant.keys c.self.view_is)

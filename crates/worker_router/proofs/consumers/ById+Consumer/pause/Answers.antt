@@ -1,0 +1,32 @@
+use Rattle.std.proofs.Common.{refl, sym, ap, map, is_some, ◌∙◌}
+use Rattle.worker_router.specs.State.{Sink, same_id}
+use Rattle.worker_router.specs.Calls.{pause_one}
+use Rattle.worker_router.specs.Tables.{outlet_of}
+use Rattle.worker_router.proofs.ByIdLemmas.{found, nobody, written, written-under}
+use Rattle.worker_router.proofs.ListLemmas.{map-change}
+use Rattle.worker_router.proofs.consumers.ById+Consumer.pause.Goals as goal
+
+pub returns-in_default-clause-there : goal.returns-in_default-clause-there
+returns-in_default-clause-there c = ap is_some (c.in_default.ensures.value ∙ found (λ (s : Sink). s.id) c.args.id c.self.inside.items c.args.self.now c.self.invariant.keys c.self.view_is)
+
+pub returns-in_default-clause-state : goal.returns-in_default-clause-state
+returns-in_default-clause-state c =
+    nobody (λ (s : Sink). s.id) (pause_one c.args.paused) c.args.id c.self.inside.items c.get_mut.follows.lender-at-none c.args.self.now c.self.invariant.keys c.self.view_is c.in_default.ensures.value c.get_mut.follows.holds-at-none
+
+pub invariant_of-self-2 : goal.invariant_of-self-2
+invariant_of-self-2 c =
+    record {
+      keys = written-under (λ (s : Sink). s.id) (pause_one c.args.paused) c.args.id c.self.inside.items (c.get_mut.follows.lender c.pause.new.self) c.args.self.now c.in-Some.consumer.now c.pause.new.self c.self.invariant.keys c.self.view_is c.get_mut.ensures.unique (sym c.in-Some.ensures.value) (c.get_mut.follows.holds c.pause.new.self).0 (ap (λ (s : Sink). s.id.0) c.pause.ensures.state);
+      different = (c.get_mut.follows.holds c.pause.new.self).4;
+    }
+
+pub returns-clause-there : goal.returns-clause-there
+returns-clause-there c = ap is_some (c.in-Some.ensures.value ∙ found (λ (s : Sink). s.id) c.args.id c.self.inside.items c.args.self.now c.self.invariant.keys c.self.view_is)
+
+pub returns-clause-state : goal.returns-clause-state
+returns-clause-state c = written (λ (s : Sink). s.id) (pause_one c.args.paused) c.args.id c.self.inside.items (c.get_mut.follows.lender c.pause.new.self) c.args.self.now c.in-Some.consumer.now c.pause.new.self c.self.invariant.keys c.self.view_is c.get_mut.ensures.unique (sym c.in-Some.ensures.value) (c.get_mut.follows.holds c.pause.new.self).0 c.pause.ensures.state
+
+pub returns-clause-outlets : goal.returns-clause-outlets
+returns-clause-outlets c =
+    ap (map outlet_of) (written (λ (s : Sink). s.id) (pause_one c.args.paused) c.args.id c.self.inside.items (c.get_mut.follows.lender c.pause.new.self) c.args.self.now c.in-Some.consumer.now c.pause.new.self c.self.invariant.keys c.self.view_is c.get_mut.ensures.unique (sym c.in-Some.ensures.value) (c.get_mut.follows.holds c.pause.new.self).0 c.pause.ensures.state)
+    ∙ map-change outlet_of (λ s. same_id s.id c.args.id) (pause_one c.args.paused) (λ x. refl) c.args.self.now

@@ -1,0 +1,102 @@
+//! The Consumers of a Router.
+
+ghost use Rattle.std.specs.Prelude.{◌≡◌, ◌<◌, ◌≤◌, length, take, drop, not, map, filter, find, is_some, Some, None, option_map, option_and_then, ◌&&◌, IfSome, IfNone};
+ghost use Rattle.rtp_packet.specs.Packet.{IsPacket};
+ghost use Rattle.simple_consumer.specs.Sending.{offer};
+ghost use Rattle.pipe_consumer.specs.Streams.{passed_by};
+ghost use Rattle.worker_router.specs.State.{same_id, goes_over, is_of};
+ghost use Rattle.worker_router.specs.Calls.{after_offer, change, connect_one, pause_one, pause_source_of, without};
+ghost use Rattle.worker_router.specs.Tables.{AreDifferent, outlet_of, present, offered_by};
+
+use crate::by_id::ById;
+use crate::consumer::Consumer;
+use crate::feed::Feed;
+use ms_base::Id;
+use rtp_extension::Mapped;
+use rtp_packet::View;
+
+impl ById<Consumer> {
+    /// Pauses or resumes the Consumer of this id, and tells whether it is there.
+    pub(crate) fn pause(&mut self, id: Id, paused: bool) -> bool
+        ensures there { result ≡ is_some (find (λ c. same_id c.id id) self.old) }
+        ensures state { self.new ≡ change (λ c. same_id c.id id) (pause_one paused) self.old }
+        ensures outlets { map outlet_of self.new ≡ map outlet_of self.old }
+    {
+        let Some(consumer) = self.items.get_mut(&id.0) else {
+            return false;
+        };
+        consumer.pause(paused);
+        true
+    }
+
+    /// Connects those over a transport.
+    pub(crate) fn connect_over(&mut self, transport: Id)
+        ensures state { self.new ≡ change (goes_over transport) connect_one self.old }
+        ensures outlets { map outlet_of self.new ≡ map outlet_of self.old }
+    {
+        self.items.retain(|_key, consumer| {
+            consumer.connect_over(transport);
+            true
+        });
+    }
+
+    /// Tells those of a Producer that it is paused or not.
+    pub(crate) fn pause_source(&mut self, producer: Id, paused: bool)
+        ensures state { self.new ≡ change (is_of producer) (pause_source_of paused) self.old }
+        ensures outlets { map outlet_of self.new ≡ map outlet_of self.old }
+    {
+        self.items.retain(|_key, consumer| {
+            consumer.pause_source(producer, paused);
+            true
+        });
+    }
+
+    /// Takes out those over a transport.
+    pub(crate) fn remove_over(&mut self, transport: Id)
+        ensures state { self.new ≡ without (goes_over transport) self.old }
+        ensures different { AreDifferent (λ c. c.id) self.new }
+    {
+        self.items
+            .retain(|_key, consumer| consumer.transport() != transport);
+    }
+
+    /// Keeps those whose Producers are there.
+    pub(crate) fn keep_fed(&mut self, producers: &ById<Feed>)
+        ensures state { self.new ≡ filter (λ c. present (λ f. f.source.id) producers.now c.producer) self.old }
+        ensures different { AreDifferent (λ c. c.id) self.new }
+    {
+        self.items
+            .retain(|_key, consumer| producers.has(consumer.producer()));
+    }
+
+    /// Writes what the Consumer of this id sends on of a packet that was read, as [`Consumer::pass`] does with the ids of
+    /// its Producer.
+    pub(crate) fn pass(
+        &mut self,
+        id: Id,
+        producers: &ById<Feed>,
+        mapped: Mapped,
+        view: &View<'_>,
+        packet: &[u8],
+        into: &mut [u8],
+    ) -> Option<usize>
+        requires read { IsPacket view.now packet.now }
+        requires payload_type { mapped.payload_type < 128 }
+        requires room { length packet.now ≤ length into.old }
+        ensures packet { option_map (λ n. take n into.new) result
+            ≡ option_and_then (λ c. option_and_then (passed_by c.streams) (offered_by producers.now c mapped packet.now)) (find (λ c. same_id c.id id) self.old) }
+        ensures state { self.new ≡ change (λ c. same_id c.id id) (λ c. after_offer (offered_by producers.now c mapped packet.now) c) self.old }
+        ensures outlets { map outlet_of self.new ≡ map outlet_of self.old }
+        ensures no_longer { IfSome result (λ n. n ≤ length packet.now) }
+        ensures rest { IfSome result (λ n. drop n into.new ≡ drop n into.old) }
+        ensures untouched { IfNone result (into.new ≡ into.old) }
+    {
+        let Some(consumer) = self.items.get_mut(&id.0) else {
+            return None;
+        };
+        let Some(feed) = producers.get(consumer.producer()) else {
+            return None;
+        };
+        consumer.pass(mapped, feed.ids(), view, packet, into)
+    }
+}
