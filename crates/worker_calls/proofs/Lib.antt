@@ -1,0 +1,4 @@
+mod EntryLemmas
+mod PlanLemmas
+mod SsrcLemmas
+mod TableLemmas
