@@ -34,11 +34,12 @@ def expect(what, got, wanted):
         failed = True
 
 
-def stored(name):
-    """The bytes of each line `channel HEX` of a stored file."""
+def stored(name, until):
+    """The bytes of each line `channel HEX` of a stored file, up to the last that has these bytes."""
     with open(os.path.join(RUN, name), encoding="ascii") as lines:
         words = [line.rstrip("\n").split(" ") for line in lines]
-    return [bytes.fromhex(line[1]) for line in words if line[0] == "channel"]
+    found = [bytes.fromhex(line[1]) for line in words if line[0] == "channel"]
+    return found[:max(at for at, piece in enumerate(found) if until in piece)]
 
 
 def start(**streams):
@@ -70,12 +71,14 @@ def cut(whole, size):
 
 def answers():
     """The stored run, in its own pieces and in others."""
-    given, said = stored("stdin"), b"".join(stored("stdout"))
-    # The last piece is a length over the limit, which ends a worker with status 3.
-    whole = b"".join(given[:-1])
+    # From this request on the stored run asks for sockets, whose ports are the system's here.
+    given = stored("stdin", b'"worker.openRouter"')
+    said = b"".join(stored("stdout", b'{"error":"TypeError","id":1,"reason":"method"}'))
+    whole = b"".join(given)
     for size in (1, 7, 4096, len(whole)):
         expect(f"pieces of {size} bytes", served(cut(whole, size)), (said, 0))
-    expect("a length over the limit", served(given), (said, 3))
+    # A length over the limit ends a worker with status 3.
+    expect("a length over the limit", served(given + [bytes.fromhex("01004000")]), (said, 3))
     expect("no bytes", served([]), (frame(RUNNING), 0))
 
 

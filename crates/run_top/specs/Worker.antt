@@ -1,7 +1,7 @@
 -- What a worker promises, by the status that it ends with (this project's own). Running out of memory alone is free.
 use Rattle.std.specs.Prelude.{◌≡◌, ◌≢◌, ℕ, ◌==◌, ◌||◌, Bool, IsTrue}
 use Rattle.ms_devices.specs.Causes.{Rose}
-use Rattle.worker_serve.specs.Serving.{WorkerOutside, Since, IsAny, IsUnbroken, IsToTheEnd, IsToABreak, IsOutput, IsCutByAFault, IsCutShort}
+use Rattle.worker_serve.specs.Serving.{WorkerOutside, Since, IsAny, IsUnbroken, IsToTheEnd, IsToABreak, IsOutput, IsCutByAFault, IsCutShort, IsOfLinks}
 use Rattle.worker_serve.specs.declared.serving.ServeEnd.{ServeEnd}
 use Rattle.worker_serve.specs.declared.serving.ServeEnd.TheVariants as ends
 use Rattle.run_top.specs.declared.status.TheConstants.Status.{DONE, BAD_TEXT, READ_FAILED, WRITE_FAILED, OUT_OF_MEMORY}
@@ -32,5 +32,5 @@ pub record IsWorker (status : ℕ) (before now : WorkerOutside) : Type 0 where
   -- no fault is passed over, and none of a link stands for one of the channel
   pub read_still : status ≢ READ_FAILED.0 → now.read_faults ≡ before.read_faults
   pub write_still : status ≢ WRITE_FAILED.0 → now.channel_faults ≡ before.channel_faults
-  -- no link is made use of
-  pub links : now.link_faults ≡ before.link_faults
+  -- the faults of links are those of calls for a link and of datagrams that failed
+  pub links : IsOfLinks before.link_faults now.link_faults before.calls now.calls

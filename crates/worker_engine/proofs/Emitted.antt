@@ -1,233 +1,278 @@
--- What a Consumer emits, against the state that the worker keeps.
-use Rattle.std.proofs.Common.{◌≡◌, ℕ, ◌+◌, ◌<◌, ◌==◌, List, [], ◌∷◌, ◌++◌, Bool, true, false, cond, ◌&&◌, not, length, drop, Option, Some, None, option_map, option_and_then, refl, sym, ap, subst, ◌∙◌, append_assoc, arith, get_or-drop}
-use Rattle.std.specs.Prelude.{⊤, is_some, nat_le}
-use Rattle.channel_msgs.specs.Packet.{packet_in, packet_behind, packet_letter}
-use Rattle.channel_msgs.specs.Read.{request_of}
-use Rattle.channel_msgs.specs.View.{RequestView}
+-- What a Consumer emits over events is what its streams send by the calls that the events are to it.
+use Rattle.std.proofs.Common.{◌≡◌, ℕ, List, [], ◌∷◌, ◌++◌, ◌&&◌, Bool, true, false, cond, map, Option, Some, None, is_some, option_map, refl, sym, ap, subst, ◌∙◌}
+use Rattle.std.specs.Bool.{⊤}
+use Rattle.std.specs.List.{cons_option}
 use Rattle.ms_base.specs.declared.id.Id.{Id}
-use Rattle.ms_base.specs.Id.{id_of_text}
-use Rattle.rtp_packet.specs.Packet.{Fields, IsPacket, AreBytes}
-use Rattle.rtp_packet.specs.Fault.{fault_of, Parses}
-use Rattle.rtp_packet.specs.Reading.{fields_of}
-use Rattle.seq_manager.specs.Calls.{Call, sync, input, AreSequenceNumbers, state_after, answers}
-use Rattle.seq_manager.specs.Numbering.{Numbering, unnumbered, output_number, output_by}
-use Rattle.worker_engine.specs.Lower.{LowerLaws}
-use Rattle.worker_engine.specs.Objects.{Consumer, Producer, Worker, ProducerKey, nothing_yet, direct_key, producer_at}
-use Rattle.worker_engine.specs.Packets.{max_packet, served_fields, taken, passed_by, Received, received_as, received_by, received}
-use Rattle.worker_engine.specs.Run.{Event, payload, datagram, Heard, packet, request, nothing, request_or_nothing, packet_or_else, heard_at, after_heard, after, after_all, worker_after}
-use Rattle.worker_engine.specs.Emits.{ConsumerKey, consumer_at, is_active_in, same_key, if_key, received_heard, Passed, passed_of, passed_at, input_of, sync_where, calls_at, calls_from, last_number, latest_number}
-use Rattle.worker_engine.specs.Laws.{AreEventBytes, AreEvents}
-use Rattle.worker_engine.proofs.Stretches.{passed_heard, calls_heard}
+use Rattle.ms_base.specs.declared.tuple.Tuple.{Tuple}
+use Rattle.channel_msgs.specs.Packet.{packet_in}
+use Rattle.channel_msgs.specs.View.{RequestView}
+use Rattle.rtp_packet.specs.Packet.{Fields}
+use Rattle.simple_consumer.specs.Sending.{Offer, Sending}
+use Rattle.simple_consumer.specs.Calls.{Call, set_flags, pass}
+use Rattle.pipe_consumer.specs.Streams.{passed_by, behind_offer, behind_setting, streams_after, sent, sent_for}
+use Rattle.worker_router.specs.State.{Sink, same_id, consumer_of, is_of}
+use Rattle.worker_calls.specs.State.{LinkAt, RouterAt, Worker, router_of, place_of, idle}
+use Rattle.worker_engine.specs.Packets.{Received, parsed, offer_of, offered_to, with_offered, after_received, after_parsed}
+use Rattle.worker_engine.specs.Run.{Event, payload, datagram, bound, after, after_all, after_payload, worker_after}
+use Rattle.worker_engine.specs.Emits.{ConsumerKey, FlagsAreTheirs, IsMadeBy, sink_at, request_by, request_at, settled, settled_parsed, settled_payload, received_at, received_parsed, received_payload, is_offered, calls_of, calls_at, calls_from, stays, emitted_by, emits_from}
+use Rattle.worker_engine.proofs.Ids.{same-is, found-passes, found-holds}
+use Rattle.worker_engine.proofs.Flagged.{flagged-offered}
+use Rattle.worker_engine.proofs.Sinks.{IsSet, find-change, sound-offered}
+use Rattle.worker_engine.proofs.Settled.{IsSound, AllSound, Steps, sink_by, with_state, find-changed, steps-settled}
 
--- ---- options
+-- ---- an event, and then the packet that it brings
 
-pub and-then-some : {A B : Type 0} (f : A → Option B) (o : Option A) (y : B) → option_and_then f o ≡ Some y → (x : A) × (o ≡ Some x) × (f x ≡ Some y)
-and-then-some f None y h = absurd cc
-and-then-some f (Some x) y h = (x, refl, h)
+after-payload : (w : Worker) (p : Option (Id × List ℕ)) (bytes : List ℕ) → after_payload w p bytes ≡ after_received (settled_payload w p bytes) (received_payload w p)
+after-payload w None bytes = refl
+after-payload w (Some p) bytes = refl
 
-pub map-some : {A B : Type 0} (f : A → B) (o : Option A) (y : B) → option_map f o ≡ Some y → (x : A) × (o ≡ Some x) × (f x ≡ y)
-map-some f None y h = absurd cc
-map-some f (Some x) y h = (x, refl, cc)
+after-parsed : (w : Worker) (l : Option LinkAt) (from : Tuple) (packet : List ℕ) (f : Option Fields)
+    → after_parsed w l from packet f ≡ after_received (settled_parsed w l from f) (received_parsed w l from packet f)
+after-parsed w None from packet f = refl
+after-parsed w (Some l) from packet None = refl
+after-parsed w (Some l) from packet (Some f) = refl
 
-chosen : {A : Type 0} (b : Bool) (x y : A) → cond b (Some x) None ≡ Some y → (b ≡ true) × (x ≡ y)
-chosen true x y h = (refl, cc)
-chosen false x y h = absurd cc
+after-is : (w : Worker) (e : Event) → after w e ≡ after_received (settled w e) (received_at w e)
+after-is w (payload bytes) = after-payload w (packet_in bytes) bytes
+after-is w (datagram link from packet) = after-parsed w (place_of w link) from packet (parsed packet)
+after-is w (bound port) = refl
 
-both : (a b : Bool) → (a && b) ≡ true → (a ≡ true) × (b ≡ true)
-both true b e = (refl, e)
-both false b e = absurd (let no : false ≡ true = e in cc)
+-- ---- the Consumer of a key behind a packet that is passed on
 
-not-some : {A : Type 0} (o : Option A) → not (is_some o) ≡ true → o ≡ None
-not-some None e = refl
-not-some (Some x) e = absurd (let no : false ≡ true = e in cc)
+abbrev offered_by : ConsumerKey → Option Received → Sink → Sink
+offered_by key None c = c
+offered_by key (Some got) c = cond (is_offered key got c) (offered_to (offer_of got) c) c
 
--- ---- a packet that is received
+module _ (h : Worker) (got : Received) where
+  abbrev o : Offer
+  o = offer_of got
 
--- what is so of it
-pub record IsReceived (w : Worker) (bytes : List ℕ) (r : Received) : Type 0 where
-  pub packet_is : r.packet ≡ bytes
-  pub fields_are : r.fields ≡ fields_of bytes
-  pub parses : Parses bytes
-  pub producer_is : producer_at w r.key ≡ Some r.producer
-  pub taken_is : taken r.producer.params r.producer.mapping r.fields ≡ Some r.taken
+  abbrev passed_on : RouterAt → RouterAt
+  passed_on r = cond (same_id r.id got.router) (with_state r (with_offered got.producer.id o r.router)) r
 
-served-is : (bytes : List ℕ) (f : Fields) → served_fields bytes ≡ Some f → (fields_of bytes ≡ f) × Parses bytes
-unfolding served_fields
-served-is bytes f h =
-    let pick = chosen _ (fields_of bytes) f h in
-    let inner = both (nat_le (length bytes) max_packet) _ pick.0 in
-    (pick.1, not-some (fault_of bytes) inner.1)
+  in-router : (id : Id) (r : RouterAt) (b : Bool)
+      → consumer_of (cond b (with_state r (with_offered got.producer.id o r.router)) r).router id
+      ≡ option_map (λ c. cond (b && is_of got.producer.id c) (offered_to o c) c) (consumer_of r.router id)
+  in-router id r true = find-change (is_of got.producer.id) (offered_to o) (λ c. refl) id r.router.consumers
+  in-router id r false = sym (same-option (consumer_of r.router id))
+    where
+      same-option : (s : Option Sink) → option_map (λ (c : Sink). c) s ≡ s
+      same-option None = refl
+      same-option (Some c) = refl
 
-pub received-is : (w : Worker) (id : Id) (bytes : List ℕ) (r : Received) → received w id bytes ≡ Some r → IsReceived w bytes r
-unfolding received
-received-is w id bytes r h =
-    let fields = and-then-some (λ f. option_and_then (received_by w bytes f) (direct_key w id)) (served_fields bytes) r h in
-    let key = and-then-some (received_by w bytes fields.0) (direct_key w id) r fields.2 in
-    let producer = and-then-some (λ p. received_as key.0 p bytes fields.0) (producer_at w key.0) r key.2 in
-    let took = map-some (λ t. record { key = key.0; producer = producer.0; packet = bytes; fields = fields.0; taken = t }) (taken producer.0.params producer.0.mapping fields.0) r producer.2 in
-    let served = served-is bytes fields.0 fields.1 in
-    subst (IsReceived w bytes) took.2 (record {
-      packet_is = refl;
-      fields_are = sym served.0;
-      parses = served.1;
-      producer_is = producer.1;
-      taken_is = took.1;
-    })
+  in-found : (key : ConsumerKey) (s : Option RouterAt) → router_of h key.router ≡ s → sink_by (option_map passed_on s) key.consumer ≡ option_map (offered_by key (Some got)) (sink_by s key.consumer)
+  in-found key None e = refl
+  in-found key (Some r) e =
+      let own : r.id ≡ key.router = same-is r.id key.router (found-passes (λ (x : RouterAt). same_id x.id key.router) h.routers r e) in
+      ap (λ (i : Id). consumer_of (cond (same_id i got.router) (with_state r (with_offered got.producer.id o r.router)) r).router key.consumer) own
+      ∙ in-router key.consumer r (same_id key.router got.router)
 
-pub packet-is : LowerLaws → (w : Worker) (bytes : List ℕ) (r : Received) → AreBytes bytes → IsReceived w bytes r → IsPacket r.fields r.packet
-packet-is laws w bytes r are is =
-    subst (λ (b : List ℕ). IsPacket r.fields b) (sym is.packet_is)
-    (let whole = (laws.grammar bytes are).0 is.parses in subst (λ (f : Fields). IsPacket f bytes) (sym (is.fields_are ∙ laws.fields bytes whole.0 whole.1)) whole.1)
+  sink-received : (key : ConsumerKey) → sink_at (after_received h (Some got)) key ≡ option_map (offered_by key (Some got)) (sink_at h key)
+  sink-received key =
+      ap (λ (s : Option RouterAt). sink_by s key.consumer) (find-changed got.router (with_offered got.producer.id o) h.routers key.router)
+      ∙ in-found key (router_of h key.router) refl
 
--- ---- the bytes of what is heard
+  -- each Router stays sound
+  sound-by : (r : RouterAt) (b : Bool) → IsSound r.router → IsSound (cond b (with_state r (with_offered got.producer.id o r.router)) r).router
+  sound-by r true s = record {
+    sinks = sound-offered r.router.consumers s.sinks (is_of got.producer.id) o;
+    flagged = flagged-offered r.router.transports r.router.producers r.router.consumers s.flagged (is_of got.producer.id) o;
+  }
+  sound-by r false s = s
 
-AreBytes-drop : (n : ℕ) (bytes : List ℕ) → AreBytes bytes → AreBytes (drop n bytes)
-AreBytes-drop n bytes are i = rw get_or-drop (are (n + i))
+  sound-found : (s : Option RouterAt) → ((r : RouterAt) → s ≡ Some r → IsSound r.router) → (r : RouterAt) → option_map passed_on s ≡ Some r → IsSound r.router
+  sound-found None h r e = cc
+  sound-found (Some x) h r e =
+      let same : passed_on x ≡ r = cc in
+      subst (λ (y : RouterAt). IsSound y.router) same (sound-by x (same_id x.id got.router) (h x refl))
 
-pub HeardBytes : Heard → Type 0
-HeardBytes (packet id bytes) = AreBytes bytes
-HeardBytes (request r) = ⊤
-HeardBytes nothing = ⊤
+  sound-received : AllSound h.routers → AllSound (after_received h (Some got)).routers
+  sound-received s id r e =
+      sound-found (router_of h id) (s id) r (sym (find-changed got.router (with_offered got.producer.id o) h.routers id) ∙ e)
 
-behind-bytes : (c : ℕ) (rest : List ℕ) (p : Id × List ℕ) → AreBytes (c ∷ rest) → packet_behind rest ≡ Some p → AreBytes p.1
-behind-bytes c rest p are h =
-    let found = map-some _ (id_of_text _) p h in
-    subst (λ (q : Id × List ℕ). AreBytes q.1) found.2 (AreBytes-drop 37 (c ∷ rest) are)
+same-sink : (s : Option Sink) → option_map (λ (c : Sink). c) s ≡ s
+same-sink None = refl
+same-sink (Some c) = refl
 
-packet-by : (b : Bool) (c : ℕ) (rest : List ℕ) (p : Id × List ℕ) → AreBytes (c ∷ rest) → cond b (packet_behind rest) None ≡ Some p → AreBytes p.1
-packet-by true c rest p are h = behind-bytes c rest p are h
-packet-by false c rest p are h = absurd cc
+sink-behind : (h : Worker) (got : Option Received) (key : ConsumerKey) → sink_at (after_received h got) key ≡ option_map (offered_by key got) (sink_at h key)
+sink-behind h None key = sym (same-sink (sink_at h key))
+sink-behind h (Some got) key = sink-received h got key
 
-packet-bytes : (bytes : List ℕ) (p : Id × List ℕ) → AreBytes bytes → packet_in bytes ≡ Some p → AreBytes p.1
-unfolding packet_in
-packet-bytes [] p are h = absurd cc
-packet-bytes (c ∷ rest) p are h = packet-by (c == packet_letter) c rest p are h
+sound-behind : (h : Worker) (got : Option Received) → AllSound h.routers → AllSound (after_received h got).routers
+sound-behind h None s = s
+sound-behind h (Some got) s = sound-received h got s
 
-other-bytes : (o : Option RequestView) → HeardBytes (request_or_nothing o)
-unfolding HeardBytes
-other-bytes None = tt
-other-bytes (Some r) = tt
+-- ---- event by event
 
-either-bytes : (o : Option (Id × List ℕ)) (other : Heard) → ((p : Id × List ℕ) → o ≡ Some p → AreBytes p.1) → HeardBytes other → HeardBytes (packet_or_else o other)
-unfolding HeardBytes
-either-bytes None other h rest = rest
-either-bytes (Some p) other h rest = h p refl
+-- of a new Consumer nothing is asked
+pub settled-steps : (w : Worker) → AllSound w.routers → (e : Event) → Steps (λ key d. ⊤) w.routers (settled w e).routers
+settled-steps w s e = steps-settled (λ key d. ⊤) w s e (λ r is ids asks c has flags paused. tt)
 
-pub heard-bytes : (e : Event) → AreEventBytes e → HeardBytes (heard_at e)
-unfolding HeardBytes
-heard-bytes (payload bytes) are = either-bytes (packet_in bytes) (request_or_nothing (request_of bytes)) (λ p h. packet-bytes bytes p are h) (other-bytes (request_of bytes))
-heard-bytes (datagram link from bytes) are = tt
+pub sound-after : (w : Worker) (e : Event) → AllSound w.routers → AllSound (after w e).routers
+sound-after w e s = subst (λ (x : Worker). AllSound x.routers) (sym (after-is w e)) (sound-behind (settled w e) (received_at w e) (settled-steps w s e).sound)
 
-pub heard-received : (w : Worker) (h : Heard) (r : Received) → HeardBytes h → received_heard w h ≡ Some r → (bytes : List ℕ) × AreBytes bytes × IsReceived w bytes r
-unfolding HeardBytes
-heard-received w (packet id bytes) r are is = (bytes, are, received-is w id bytes r is)
-heard-received w (request q) r are is = absurd cc
-heard-received w nothing r are is = absurd cc
+pub sound-all : (w : Worker) (events : List Event) → AllSound w.routers → AllSound (after_all w events).routers
+sound-all w [] s = s
+sound-all w (e ∷ es) s = sound-all (after w e) es (sound-after w e s)
 
--- ---- what is passed on
+pub sound-idle : AllSound idle.routers
+sound-idle id r e = cc
 
-pub record IsPassed (w : Worker) (h : Heard) (key : ConsumerKey) (p : Passed) : Type 0 where
-  pub heard : received_heard w h ≡ Some p.received
-  pub pair : Producer × Consumer
-  pub there : consumer_at w key ≡ Some pair
-  pub passes : passed_by pair.0 pair.1 p.received.taken ≡ Some p.ssrc
+-- the Consumer that is there once an event has settled, and what becomes of it
+pub record Settles (w : Worker) (e : Event) (key : ConsumerKey) (c d : Sink) : Type 0 where
+  pub own : Sink
+  pub there : sink_at (settled w e) key ≡ Some own
+  pub set : IsSet c own
+  pub is : offered_by key (received_at w e) own ≡ d
 
-key-is : (k : ProducerKey) (r s : Received) → if_key k r ≡ Some s → r ≡ s
-key-is k r s h = (chosen (same_key r.key k) r s h).1
+settles-by : (w : Worker) (e : Event) (key : ConsumerKey) (c d : Sink) → AllSound w.routers → sink_at w key ≡ Some c → (s : Option Sink) → sink_at (settled w e) key ≡ s
+    → option_map (offered_by key (received_at w e)) s ≡ Some d → Settles w e key c d
+settles-by w e key c d sound there None at g = cc
+settles-by w e key c d sound there (Some x) at g = record {
+  own = x;
+  there = at;
+  set = (settled-steps w sound e).goes key c x there at;
+  is = cc;
+}
 
-pub passed-is : (w : Worker) (h : Heard) (key : ConsumerKey) (p : Passed) → passed_heard w h key ≡ Some p → IsPassed w h key p
-passed-is w h key p e =
-    let got = and-then-some (λ r. option_and_then (passed_of r) (consumer_at w key)) (option_and_then (if_key key.producer) (received_heard w h)) p e in
-    let of = and-then-some (if_key key.producer) (received_heard w h) got.0 got.1 in
-    let same : of.0 ≡ got.0 = key-is key.producer of.0 got.0 of.2 in
-    let pair = and-then-some (passed_of got.0) (consumer_at w key) p got.2 in
-    let made = map-some (λ ssrc. record { received = got.0; consumer = pair.0.1; ssrc = ssrc }) (passed_by pair.0.0 pair.0.1 got.0.taken) p pair.2 in
-    subst (IsPassed w h key) made.2 (record {
-      heard = of.1 ∙ ap Some same;
-      pair = pair.0;
-      there = pair.1;
-      passes = made.1;
-    })
+settles : (w : Worker) (e : Event) (key : ConsumerKey) (c d : Sink) → AllSound w.routers → sink_at w key ≡ Some c → sink_at (after w e) key ≡ Some d → Settles w e key c d
+settles w e key c d sound there g =
+    settles-by w e key c d sound there (sink_at (settled w e) key) refl
+    (sym (ap (λ (x : Worker). sink_at x key) (after-is w e) ∙ sink-behind (settled w e) (received_at w e) key) ∙ g)
 
--- ---- sequence numbers have 16 bits
+-- ---- one Consumer and an event, over what it was and the packet
 
-input-fits : (o : Option Passed) (rest : List Call) → ((p : Passed) → o ≡ Some p → p.received.fields.seq < 65536) → AreSequenceNumbers rest → AreSequenceNumbers (input_of o ++ rest)
-input-fits None rest h r = r
-input-fits (Some p) rest h r = (h p refl, r)
+abbrev packets : List (ℕ × List ℕ) → List (List ℕ)
+packets all = map (λ one. one.1) all
 
-sync-fits : (b : Bool) → AreSequenceNumbers (sync_where b)
-sync-fits true = tt
-sync-fits false = tt
+-- the streams behind its calls, and what is sent by them and by later ones
+record Emits (key : ConsumerKey) (got : Option Received) (c own d : Sink) : Type 0 where
+  streams : d.streams ≡ streams_after c.streams (calls_of key got (Some d))
+  sends : (later : List Call) → packets (sent c.streams (calls_of key got (Some d) ++ later)) ≡ cons_option (emitted_by key got (Some own)) (packets (sent d.streams later))
 
-pub seq-fits : LowerLaws → (w : Worker) (h : Heard) (key : ConsumerKey) (p : Passed) → HeardBytes h → passed_heard w h key ≡ Some p → p.received.fields.seq < 65536
-seq-fits laws w h key p are e =
-    let is = passed-is w h key p e in
-    let got = heard-received w h p.received are is.heard in
-    (packet-is laws w got.0 p.received got.1 got.2).fits.seq
+sent-one : (ssrc : ℕ) (p : Option (List ℕ)) (rest : List (ℕ × List ℕ)) → packets (cons_option (option_map (sent_for ssrc) p) rest) ≡ cons_option p (packets rest)
+sent-one ssrc None rest = refl
+sent-one ssrc (Some p) rest = refl
 
-calls-fit : LowerLaws → (w : Worker) (h : Heard) (key : ConsumerKey) → HeardBytes h → AreSequenceNumbers (calls_heard w h key)
-calls-fit laws w h key are = input-fits (passed_heard w h key) _ (λ p e. seq-fits laws w h key p are e) (sync-fits (not (is_active_in w key) && is_active_in (after_heard w h) key))
+module _ (key : ConsumerKey) (got : Received) (c own : Sink) (set : IsSet c own) where
+  abbrev behind : Bool → Sink
+  behind b = cond b (offered_to (offer_of got) own) own
 
-numbers-append : (xs ys : List Call) → AreSequenceNumbers xs → AreSequenceNumbers ys → AreSequenceNumbers (xs ++ ys)
-numbers-append [] ys p q = q
-numbers-append (sync ∷ xs) ys p q = numbers-append xs ys p q
-numbers-append (input n ∷ xs) ys p q = (p.0, numbers-append xs ys p.1 q)
+  abbrev one_offer : Bool → List Call
+  one_offer b = cond b (pass (offer_of got) ∷ []) []
 
-pub all-fit : LowerLaws → (w : Worker) (es : List Event) (key : ConsumerKey) → AreEvents es → AreSequenceNumbers (calls_from w es key)
-all-fit laws w [] key are = tt
-all-fit laws w (e ∷ es) key are =
-    numbers-append (calls_at w e key) (calls_from (after w e) es key) (calls-fit laws w (heard_at e) key (heard-bytes e are.0)) (all-fit laws (after w e) es key are.1)
+  calls-are : (b : Bool) → calls_of key (Some got) (Some (behind b)) ≡ set_flags own.flags ∷ one_offer (is_offered key got own)
+  calls-are true = refl
+  calls-are false = refl
 
--- ---- one event behind others
+  streams-by : (b : Bool) → (behind b).streams ≡ streams_after c.streams (set_flags own.flags ∷ one_offer b)
+  streams-by true = ap (λ (ss : List Sending). behind_offer ss (offer_of got)) set
+  streams-by false = set
 
-pub after-more : (w : Worker) (xs ys : List Event) → after_all w (xs ++ ys) ≡ after_all (after_all w xs) ys
-after-more w [] ys = refl
-after-more w (x ∷ xs) ys = after-more (after w x) xs ys
+  sends-by : (b : Bool) (later : List Call)
+      → packets (sent c.streams (set_flags own.flags ∷ one_offer b ++ later)) ≡ cons_option (cond b (passed_by own.streams (offer_of got)) None) (packets (sent (behind b).streams later))
+  sends-by true later =
+      ap (λ (ss : List Sending). packets (sent ss (pass (offer_of got) ∷ later))) (sym set)
+      ∙ sent-one (offer_of got).mapped.ssrc (passed_by own.streams (offer_of got)) (sent (behind_offer own.streams (offer_of got)) later)
+  sends-by false later = ap (λ (ss : List Sending). packets (sent ss later)) (sym set)
 
-pub calls-more : (w : Worker) (xs ys : List Event) (key : ConsumerKey) → calls_from w (xs ++ ys) key ≡ calls_from w xs key ++ calls_from (after_all w xs) ys key
-calls-more w [] ys key = refl
-calls-more w (x ∷ xs) ys key =
-    ap (λ (t : List Call). calls_at w x key ++ t) (calls-more (after w x) xs ys key)
-    ∙ sym (append_assoc (calls_at w x key) (calls_from (after w x) xs key) (calls_from (after_all (after w x) xs) ys key))
+  emits-packet : Emits key (Some got) c own (offered_by key (Some got) own)
+  emits-packet =
+      let b : Bool = is_offered key got own in
+      record {
+        streams = streams-by b ∙ ap (streams_after c.streams) (sym (calls-are b));
+        sends = λ later. ap (λ (calls : List Call). packets (sent c.streams (calls ++ later))) (calls-are b) ∙ sends-by b later;
+      }
 
-pub events-more : (xs ys : List Event) → AreEvents xs → AreEvents ys → AreEvents (xs ++ ys)
-events-more [] ys p q = q
-events-more (x ∷ xs) ys p q = (p.0, events-more xs ys p.1 q)
+emits-one : (key : ConsumerKey) (got : Option Received) (c own : Sink) → IsSet c own → Emits key got c own (offered_by key got own)
+emits-one key None c own set = record { streams = set; sends = λ later. ap (λ (ss : List Sending). packets (sent ss later)) (sym set) }
+emits-one key (Some got) c own set = emits-packet key got c own set
 
-pub events-parts : (xs ys : List Event) → AreEvents (xs ++ ys) → AreEvents xs × AreEvents ys
-events-parts [] ys p = (tt, p)
-events-parts (x ∷ xs) ys p = let rest = events-parts xs ys p.1 in ((p.0, rest.0), rest.1)
+-- ---- along a list of events
 
-last-snoc : (xs : List ℕ) (n : ℕ) → last_number (xs ++ n ∷ []) ≡ n
-last-snoc [] n = refl
-last-snoc (x ∷ []) n = refl
-last-snoc (x ∷ y ∷ ys) n = last-snoc (y ∷ ys) n
+streams-append : (ss : List Sending) (calls more : List Call) → streams_after ss (calls ++ more) ≡ streams_after (streams_after ss calls) more
+streams-append ss [] more = refl
+streams-append ss (set_flags f ∷ calls) more = streams-append (behind_setting f ss) calls more
+streams-append ss (pass o ∷ calls) more = streams-append (behind_offer ss o) calls more
 
-no-answer : (s : Numbering) (b : Bool) → answers s (sync_where b ++ []) ≡ []
-no-answer s true = refl
-no-answer s false = refl
+abbrev streams_at : Option Sink → Option (List Sending)
+streams_at s = option_map (λ d. d.streams) s
 
--- the latest number is the one that the state gives
-pub latest-is : LowerLaws → (before : List Event) (e : Event) (key : ConsumerKey) (p : Passed) → AreEvents (before ++ e ∷ []) → passed_at (worker_after before) e key ≡ Some p
-    → latest_number (before ++ e ∷ []) key ≡ output_number (state_after unnumbered (calls_from nothing_yet before key)) p.received.fields.seq
-latest-is laws before e key p are is =
-    let w : Worker = worker_after before in
-    let calls : List Call = calls_from nothing_yet before key in
-    let s : Numbering = state_after unnumbered calls in
-    let n : ℕ = p.received.fields.seq in
-    let starts : Bool = not (is_active_in w key) && is_active_in (after w e) key in
-    let last : calls_from w (e ∷ []) key ≡ input n ∷ (sync_where starts ++ []) =
-    ap (λ o. (input_of o ++ sync_where starts) ++ []) is in
-    let whole : calls_from nothing_yet (before ++ e ∷ []) key ≡ calls ++ (input n ∷ (sync_where starts ++ [])) =
-    calls-more nothing_yet before (e ∷ []) key ∙ ap (λ (t : List Call). calls ++ t) last in
-    let said : answers unnumbered (calls ++ (input n ∷ (sync_where starts ++ []))) ≡ answers unnumbered calls ++ output_number s n ∷ [] =
-    laws.going unnumbered calls (input n ∷ (sync_where starts ++ [])) ∙ ap (λ (t : List ℕ). answers unnumbered calls ++ output_number s n ∷ t) (no-answer _ starts) in
-    ap last_number (sym (laws.answered (calls_from nothing_yet (before ++ e ∷ []) key) (all-fit laws nothing_yet (before ++ e ∷ []) key are)) ∙ (ap (answers unnumbered) whole ∙ said))
-    ∙ last-snoc (answers unnumbered calls) (output_number s n)
+pub record IsOfTheCalls (w : Worker) (later : List Event) (key : ConsumerKey) (c : Sink) : Type 0 where
+  pub emits : emits_from w later key ≡ packets (sent c.streams (calls_from w later key))
+  pub streams : streams_at (sink_at (after_all w later) key) ≡ Some (streams_after c.streams (calls_from w later key))
 
-pub output-fits : (s : Numbering) (n : ℕ) → output_number s n < 65536
-output-fits s n = fits s.greatest s.offset n
-  where
-    fits : (greatest : ℕ) (offset : Option ℕ) (n : ℕ) → output_by greatest offset n < 65536
-    fits greatest None n = omega arith
-    fits greatest (Some offset) n = omega arith
+module _ (w : Worker) (e : Event) (es : List Event) (key : ConsumerKey) (c : Sink) (sound : AllSound w.routers) (there : sink_at w key ≡ Some c) where
+  abbrev got : Option Received
+  got = received_at w e
+
+  abbrev more : List Call
+  more = calls_from (after w e) es key
+
+  goes-on : (d : Sink) → sink_at (after w e) key ≡ Some d → IsOfTheCalls (after w e) es key d → IsOfTheCalls w (e ∷ es) key c
+  goes-on d at next =
+      let s : Settles w e key c d = settles w e key c d sound there at in
+      let one : Emits key got c s.own d = subst (Emits key got c s.own) s.is (emits-one key got c s.own s.set) in
+      let calls : calls_at w e key ≡ calls_of key got (Some d) = ap (calls_of key got) at in
+      record {
+        emits =
+            ap (λ (x : Option Sink). cons_option (emitted_by key got x) (emits_from (after w e) es key)) s.there
+            ∙ (ap (cons_option (emitted_by key got (Some s.own))) next.emits
+            ∙ (sym (one.sends more) ∙ ap (λ (x : List Call). packets (sent c.streams (x ++ more))) (sym calls)));
+        streams =
+            next.streams
+            ∙ ap Some (ap (λ (ss : List Sending). streams_after ss more) one.streams
+            ∙ (sym (streams-append c.streams (calls_of key got (Some d)) more) ∙ ap (λ (x : List Call). streams_after c.streams (x ++ more)) (sym calls)));
+      }
+
+  stays-by : (s : Option Sink) (rest : Bool) → sink_at (after w e) key ≡ s → is_some s && rest ≡ true
+      → ((d : Sink) → sink_at (after w e) key ≡ Some d → rest ≡ true → IsOfTheCalls (after w e) es key d) → IsOfTheCalls w (e ∷ es) key c
+  stays-by None rest at t next = cc
+  stays-by (Some d) rest at t next = goes-on d at (next d at t)
+
+pub is-of-the-calls : (w : Worker) (later : List Event) (key : ConsumerKey) (c : Sink) → AllSound w.routers → sink_at w key ≡ Some c → stays w later key ≡ true → IsOfTheCalls w later key c
+is-of-the-calls w [] key c sound there t = record { emits = refl; streams = ap streams_at there }
+is-of-the-calls w (e ∷ es) key c sound there t =
+    stays-by w e es key c sound there (sink_at (after w e) key) (stays (after w e) es key) refl t
+    (λ d at more. is-of-the-calls (after w e) es key d (sound-after w e sound) at more)
+
+pub sound-events : (events : List Event) → AllSound (worker_after events).routers
+sound-events events = sound-all idle events sound-idle
+
+-- ---- what is new
+
+request-alone : (w : Worker) (p : Option (Id × List ℕ)) (bytes : List ℕ) (r : RequestView) → request_by p bytes ≡ Some r → received_payload w p ≡ None
+request-alone w None bytes r e = refl
+request-alone w (Some p) bytes r e = cc
+
+-- a request brings no packet
+no-packet : (w : Worker) (e : Event) (r : RequestView) → request_at e ≡ Some r → received_at w e ≡ None
+no-packet w (payload bytes) r is = request-alone w (packet_in bytes) bytes r is
+no-packet w (datagram link from packet) r is = cc
+no-packet w (bound port) r is = cc
+
+steps-made : (w : Worker) → AllSound w.routers → (e : Event) → Steps (IsMadeBy e) w.routers (settled w e).routers
+steps-made w s e =
+    steps-settled (IsMadeBy e) w s e
+    (λ r is ids asks c has flags paused.
+    record { request = r; ids = ids; content = c; is_event = is; asks = asks; has = has; own_key = refl; new = refl; paused = paused })
+
+made-by : (w : Worker) (e : Event) (key : ConsumerKey) (d : Sink) → AllSound w.routers → sink_at w key ≡ None → (s : Option Sink) → sink_at (settled w e) key ≡ s
+    → option_map (offered_by key (received_at w e)) s ≡ Some d → IsMadeBy e key d
+made-by w e key d sound gone None at g = cc
+made-by w e key d sound gone (Some x) at g =
+    let made : IsMadeBy e key x = (steps-made w sound e).begins key x gone at in
+    let is : offered_by key (received_at w e) x ≡ d = cc in
+    subst (IsMadeBy e key) (sym (ap (λ (got : Option Received). offered_by key got x) (no-packet w e made.request made.is_event)) ∙ is) made
+
+pub is-made-by : (w : Worker) (e : Event) (key : ConsumerKey) (d : Sink) → AllSound w.routers → sink_at w key ≡ None → sink_at (after w e) key ≡ Some d → IsMadeBy e key d
+is-made-by w e key d sound gone g =
+    made-by w e key d sound gone (sink_at (settled w e) key) refl
+    (sym (ap (λ (x : Worker). sink_at x key) (after-is w e) ∙ sink-behind (settled w e) (received_at w e) key) ∙ g)
+
+-- ---- flags
+
+pub flags-are : (w : Worker) (key : ConsumerKey) (r : RouterAt) (c : Sink) → AllSound w.routers → router_of w key.router ≡ Some r → consumer_of r.router key.consumer ≡ Some c
+    → FlagsAreTheirs r.router.transports r.router.producers c
+flags-are w key r c sound at there =
+    found-holds (λ (x : Sink). same_id x.id key.consumer) (FlagsAreTheirs r.router.transports r.router.producers) r.router.consumers c (sound key.router r at).flagged there

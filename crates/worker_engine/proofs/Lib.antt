@@ -1,18 +1,16 @@
-pub mod ByIdLemmas
-pub mod Changes
-pub mod Emitted
-pub mod EngineLemmas
-pub mod Lends
-pub mod IdLemmas
-pub mod LookUps
-pub mod Made
-pub mod Output
-pub mod PacketChanges
-pub mod ReadParts
-pub mod ReplyLemmas
-pub mod RouterLemmas
-pub mod Sends
-pub mod Sound
-pub mod Stretches
-pub mod TableLemmas
-pub mod Writes
+mod Heard
+mod Ids
+mod Lending
+mod Frames
+mod Calls
+mod Received
+mod RunLemmas
+mod Serving
+mod Sends
+mod Steps
+mod Sinks
+mod Settled
+mod Emitted
+mod Outs
+mod Flagged
+mod Whole

@@ -1,155 +1,174 @@
--- What a Consumer passes on of what its Producer receives, and what a worker gives out: over the whole list of events. How a
--- Consumer's packets are numbered is that of its stretches: the packets between two times at which it becomes active (RFC 3550 has
--- sequence numbers; the numbering is this project's own, and stands in seq_manager's `Outputs`).
-use Rattle.std.specs.Prelude.{ℕ, List, [], ◌∷◌, ◌++◌, ◌&&◌, Bool, false, not, map, filter_map, if◌then◌else◌, Option, Some, None, option_map, option_and_then}
+-- What the events of a worker are to one of its Consumers, and what it emits by them. This project's own, after mediasoup's Consumers.
+use Rattle.std.specs.Prelude.{◌≡◌, ℕ, List, [], ◌∷◌, ◌++◌, ◌&&◌, Bool, true, is_some, find, map, filter_map, if◌then◌else◌, Option, Some, None, option_map, option_and_then, Ok, ⊤}
 use Rattle.std.specs.List.{cons_option}
-use Rattle.seq_manager.specs.Calls.{Call, sync, input, stretches}
-use Rattle.seq_manager.specs.Outputs.{sent_numbers}
+use Rattle.rtp_packet.specs.Packet.{AreBytes, Fields}
 use Rattle.ms_base.specs.declared.id.Id.{Id}
-use Rattle.rtp_packet.specs.Packet.{Fields, packet_of}
-use Rattle.channel_msgs.specs.Packet.{packet_payload}
-use Rattle.worker_engine.specs.Objects.{Consumer, Producer, Worker, ProducerKey, nothing_yet, same_id, producer_at, consumer_of}
-use Rattle.worker_engine.specs.Packets.{Received, received, is_active, passed_id, passed_by, passed_fields}
-use Rattle.worker_engine.specs.Requests.{reply_payload}
-use Rattle.worker_engine.specs.Run.{Event, Outgoing, say, Heard, packet, request, nothing, heard_at, after, worker_after, running_payload}
+use Rattle.ms_base.specs.declared.tuple.Tuple.{Tuple}
+use Rattle.channel_msgs.specs.Packet.{packet_in}
+use Rattle.channel_msgs.specs.Read.{request_of}
+use Rattle.channel_msgs.specs.View.{RequestView}
+use Rattle.simple_consumer.specs.Calls.{Call, set_flags, pass}
+use Rattle.pipe_consumer.specs.Streams.{passed_by}
+use Rattle.worker_requests.specs.declared.asked.Asked.TheVariants as asked
+use Rattle.worker_requests.specs.declared.asked.ConsumerIds.{ConsumerIds}
+use Rattle.worker_requests.specs.declared.content.ConsumeContent.{ConsumeContent}
+use Rattle.worker_requests.specs.Contents.{consume_content}
+use Rattle.worker_requests.specs.Methods.{asked_of}
+use Rattle.worker_router.specs.State.{TransportAt, Source, Sink, is_connected, same_id, consumer_of, is_of}
+use Rattle.worker_calls.specs.State.{LinkAt, RouterAt, Worker, router_of, place_of}
+use Rattle.worker_calls.specs.Requests.{Outgoing, new_sink, after_bound, out_bound}
+use Rattle.worker_engine.specs.Packets.{Received, parsed, offer_of, accept_in, heard_at, told_learnt, received_direct, received_from, outgoing_for}
+use Rattle.worker_engine.specs.Run.{Event, payload, datagram, bound, after_request_if, out_request_if, after}
 
--- a Consumer by its Producer's key and its own id
+-- a Consumer by the ids of its Router and of itself
 pub record ConsumerKey : Type 0 where
-  pub producer : ProducerKey
-  pub id : Id
+  pub router : Id
+  pub consumer : Id
 
--- with its Producer
-abbrev pub consumer_at : Worker → ConsumerKey → Option (Producer × Consumer)
-consumer_at w key = option_and_then (λ p. option_map (λ c. (p, c)) (consumer_of p key.id)) (producer_at w key.producer)
+-- the Consumer, where it is there
+abbrev pub sink_at : Worker → ConsumerKey → Option Sink
+sink_at w key = option_and_then (λ r. consumer_of r.router key.consumer) (router_of w key.router)
 
--- ---- when a Consumer is active
+-- ---- the packet that an event brings
 
-abbrev pub is_active_pair : Option (Producer × Consumer) → Bool
-is_active_pair None = false
-is_active_pair (Some pc) = is_active pc.0 pc.1
+abbrev pub received_parsed : Worker → Option LinkAt → Tuple → List ℕ → Option Fields → Option Received
+received_parsed w (Some l) from packet (Some f) = received_from w l.place from packet f
+received_parsed w l from packet f = None
 
--- it is there, its transport is connected, and neither it nor its Producer is paused
-abbrev pub is_active_in : Worker → ConsumerKey → Bool
-is_active_in w key = is_active_pair (consumer_at w key)
+abbrev pub received_payload : Worker → Option (Id × List ℕ) → Option Received
+received_payload w (Some p) = received_direct w p.0 p.1
+received_payload w None = None
 
--- ---- what its Producer receives
+-- what a Producer receives by an event, if one does
+abbrev pub received_at : Worker → Event → Option Received
+received_at w (payload bytes) = received_payload w (packet_in bytes)
+received_at w (datagram link from packet) = received_parsed w (place_of w link) from packet (parsed packet)
+received_at w (bound port) = None
 
-abbrev pub received_heard : Worker → Heard → Option Received
-received_heard w (packet id bytes) = received w id bytes
-received_heard w (request r) = None
-received_heard w nothing = None
+-- ---- the request that an event is
 
-abbrev pub same_key : ProducerKey → ProducerKey → Bool
-same_key a b = same_id a.router b.router && same_id a.producer b.producer
+abbrev pub request_by : Option (Id × List ℕ) → List ℕ → Option RequestView
+request_by (Some p) bytes = None
+request_by None bytes = request_of bytes
 
-abbrev pub if_key : ProducerKey → Received → Option Received
-if_key key r = if same_key r.key key then Some r else None
+abbrev pub request_at : Event → Option RequestView
+request_at (payload bytes) = request_by (packet_in bytes) bytes
+request_at (datagram link from packet) = None
+request_at (bound port) = None
 
--- the packet that the Producer of this key receives by an event, if it does
-abbrev pub received_at : Worker → Event → ProducerKey → Option Received
-received_at w e key = option_and_then (if_key key) (received_heard w (heard_at e))
+-- The event asks for this Consumer: it has the ids and the parameters of what is asked, and its streams are new ones with its flags,
+-- of which nothing is numbered.
+pub record IsMadeBy (e : Event) (key : ConsumerKey) (c : Sink) : Type 0 where
+  pub request : RequestView
+  pub ids : ConsumerIds
+  pub content : ConsumeContent
+  pub is_event : request_at e ≡ Some request
+  pub asks : asked_of request ≡ Ok (asked.Consume ids)
+  pub has : consume_content request.content ≡ Some content
+  pub own_key : key ≡ record { router = ids.router; consumer = ids.consumer }
+  pub new : c ≡ new_sink ids content c.flags
+  pub paused : c.flags.paused ≡ content.paused
 
-abbrev pub received_behind : List Event → List Event → ProducerKey → List (List ℕ)
-received_behind before [] key = []
-received_behind before (e ∷ es) key =
-    cons_option (option_map (λ r. r.packet) (received_at (worker_after before) e key)) (received_behind (before ++ e ∷ []) es key)
+-- ---- all else that an event makes of the worker
 
--- all packets that the Producer of this key received, in order
-abbrev pub received_packets : List Event → ProducerKey → List (List ℕ)
-received_packets events key = received_behind [] events key
+abbrev pub settled_parsed : Worker → Option LinkAt → Tuple → Option Fields → Worker
+settled_parsed w (Some l) from (Some f) = heard_at w l.place from
+settled_parsed w l from f = w
 
--- ---- what the Consumer passes on of it
+abbrev pub settled_payload : Worker → Option (Id × List ℕ) → List ℕ → Worker
+settled_payload w (Some p) bytes = w
+settled_payload w None bytes = after_request_if w (request_of bytes)
 
--- a packet that a Consumer passes on, and the SSRC under which it does
-pub record Passed : Type 0 where
-  pub received : Received
-  pub consumer : Consumer
-  pub ssrc : ℕ
+-- the worker behind an event, before the packet that it brings is passed on: what a request makes of it, or with the tuple that is learnt
+abbrev pub settled : Worker → Event → Worker
+settled w (payload bytes) = settled_payload w (packet_in bytes) bytes
+settled w (datagram link from packet) = settled_parsed w (place_of w link) from (parsed packet)
+settled w (bound port) = after_bound w port
 
-abbrev pub passed_of : Received → Producer × Consumer → Option Passed
-passed_of r pc = option_map (λ ssrc. record { received = r; consumer = pc.1; ssrc = ssrc }) (passed_by pc.0 pc.1 r.taken)
+-- ---- what an event is to a Consumer
 
--- It is active, the packet has a payload type of its parameters, and the mapped SSRC of one of its encodings.
-abbrev pub passed_at : Worker → Event → ConsumerKey → Option Passed
-passed_at w e key = option_and_then (λ r. option_and_then (passed_of r) (consumer_at w key)) (received_at w e key.producer)
+-- the Consumer is one of the Producer that received the packet
+abbrev pub is_offered : ConsumerKey → Received → Sink → Bool
+is_offered key got c = same_id key.router got.router && is_of got.producer.id c
 
--- ---- its stretches
+abbrev pub passes_of : ConsumerKey → Option Received → Sink → List Call
+passes_of key None c = []
+passes_of key (Some got) c = if is_offered key got c then pass (offer_of got) ∷ [] else []
 
-abbrev pub input_of : Option Passed → List Call
-input_of None = []
-input_of (Some p) = input p.received.fields.seq ∷ []
+abbrev pub calls_of : ConsumerKey → Option Received → Option Sink → List Call
+calls_of key got None = []
+calls_of key got (Some c) = set_flags c.flags ∷ passes_of key got c
 
--- a stretch begins where it has become active
-abbrev pub sync_where : Bool → List Call
-sync_where begins = if begins then sync ∷ [] else []
-
+-- its flags are those behind the event, and then it is offered the packet that its Producer received
 abbrev pub calls_at : Worker → Event → ConsumerKey → List Call
-calls_at w e key = input_of (passed_at w e key) ++ sync_where (not (is_active_in w key) && is_active_in (after w e) key)
+calls_at w e key = calls_of key (received_at w e) (sink_at (after w e) key)
 
 abbrev pub calls_from : Worker → List Event → ConsumerKey → List Call
 calls_from w [] key = []
 calls_from w (e ∷ es) key = calls_at w e key ++ calls_from (after w e) es key
 
--- The sequence numbers of the packets that it passes on, stretch by stretch. Nothing stands in front of its first stretch.
-abbrev pub stretches_of : List Event → ConsumerKey → List (List ℕ)
-stretches_of events key = stretches (calls_from nothing_yet events key)
+-- it is there behind each of the events
+abbrev pub stays : Worker → List Event → ConsumerKey → Bool
+stays w [] key = true
+stays w (e ∷ es) key = is_some (sink_at (after w e) key) && stays (after w e) es key
 
-abbrev pub last_number : List ℕ → ℕ
-last_number [] = 0
-last_number (n ∷ []) = n
-last_number (n ∷ m ∷ ms) = last_number (m ∷ ms)
+-- ---- its flags
 
--- the number of the latest packet that it passes on by these events
-abbrev pub latest_number : List Event → ConsumerKey → ℕ
-latest_number events key = last_number (sent_numbers (stretches_of events key))
+-- its flags are those of its transport and of its Producer, which are there
+pub record FlagsAreTheirs (transports : List TransportAt) (producers : List Source) (c : Sink) : Type 0 where
+  pub connected : option_map (λ t. is_connected t.transport) (find (λ t. same_id t.id c.transport) transports) ≡ Some c.flags.connected
+  pub producer_paused : option_map (λ p. p.stream.paused) (find (λ p. same_id p.id c.producer) producers) ≡ Some c.flags.producer_paused
 
 -- ---- what it emits
 
--- the fields under a number
-abbrev pub emitted_fields : Passed → ℕ → Fields
-emitted_fields p number = passed_fields p.received.fields (passed_id p.received.producer p.consumer) p.received.taken number p.ssrc
+abbrev pub emitted_by : ConsumerKey → Option Received → Option Sink → Option (List ℕ)
+emitted_by key (Some got) (Some c) = if is_offered key got c then passed_by c.streams (offer_of got) else None
+emitted_by key got c = None
 
--- The packet that the Consumer emits for an event behind others, or none: the received one with the output number of the stretches,
--- the Consumer's SSRC, the mapped payload type, and of the elements those whose mapped id the Consumer's parameters have, under that.
-abbrev pub emission : List Event → ConsumerKey → Event → Option (List ℕ)
-emission before key e =
-    option_map (λ p. packet_of (emitted_fields p (latest_number (before ++ e ∷ []) key))) (passed_at (worker_after before) e key)
+-- the packet that it emits by an event, if it does, before it is addressed
+abbrev pub emission : Worker → Event → ConsumerKey → Option (List ℕ)
+emission w e key = emitted_by key (received_at w e) (sink_at (settled w e) key)
 
-abbrev pub emits_behind : List Event → List Event → ConsumerKey → List (List ℕ)
-emits_behind before [] key = []
-emits_behind before (e ∷ es) key = cons_option (emission before key e) (emits_behind (before ++ e ∷ []) es key)
+abbrev pub emits_from : Worker → List Event → ConsumerKey → List (List ℕ)
+emits_from w [] key = []
+emits_from w (e ∷ es) key = cons_option (emission w e key) (emits_from (after w e) es key)
 
--- all packets that it emits, in order
-abbrev pub emits : List Event → ConsumerKey → List (List ℕ)
-emits events key = emits_behind [] events key
+-- ---- what goes out
 
--- ---- what the worker gives out
+abbrev pub told_parsed : Worker → Option LinkAt → Tuple → Option Fields → List Outgoing
+told_parsed w (Some l) from (Some f) = told_learnt (accept_in w l.place from) l.place from
+told_parsed w l from f = []
 
--- the key of a Consumer of this Producer
-abbrev pub key_in : ProducerKey → Consumer → ConsumerKey
-key_in producer c = record { producer = producer; id = c.id }
+abbrev pub told_payload : Worker → Option (Id × List ℕ) → List ℕ → List Outgoing
+told_payload w (Some p) bytes = []
+told_payload w None bytes = out_request_if w (request_of bytes)
 
--- the emission of a Consumer as a payload for its id
-abbrev pub emitted_payload : List Event → Event → ProducerKey → Consumer → Option (List ℕ)
-emitted_payload before e producer c = option_map (packet_payload c.id) (emission before (key_in producer c) e)
+-- what goes out by an event beside the packet that it brings
+abbrev pub told_at : Worker → Event → List Outgoing
+told_at w (payload bytes) = told_payload w (packet_in bytes) bytes
+told_at w (datagram link from packet) = told_parsed w (place_of w link) from (parsed packet)
+told_at w (bound port) = out_bound w port
 
-abbrev pub emitted_payloads : List Event → Event → Option Received → List (List ℕ)
-emitted_payloads before e None = []
-emitted_payloads before e (Some r) = filter_map (emitted_payload before e r.key) r.producer.consumers
+-- the Router in which a packet is received by an event
+abbrev pub router_at : Worker → Event → Option RouterAt
+router_at w e = option_and_then (λ got. router_of (settled w e) got.router) (received_at w e)
 
--- a packet gives the emission of each Consumer of the Producer that receives it, in order of making; a request gives its one reply
-abbrev pub out_heard : List Event → Event → Heard → List (List ℕ)
-out_heard before e (packet id bytes) = emitted_payloads before e (received (worker_after before) id bytes)
-out_heard before e (request r) = reply_payload (worker_after before) r ∷ []
-out_heard before e nothing = []
+abbrev pub key_in : RouterAt → Sink → ConsumerKey
+key_in r c = record { router = r.id; consumer = c.id }
 
-abbrev pub out_at : List Event → Event → List Outgoing
-out_at before e = map say (out_heard before e (heard_at e))
+-- what the Consumers of a Router emit by an event, each packet addressed, in order of making
+abbrev pub emitted_in : Worker → Event → Option RouterAt → List Outgoing
+emitted_in w e None = []
+emitted_in w e (Some r) = filter_map (λ c. option_map (outgoing_for (settled w e) r c) (emission w e (key_in r c))) r.router.consumers
 
-abbrev pub out_behind : List Event → List Event → List Outgoing
-out_behind before [] = []
-out_behind before (e ∷ es) = out_at before e ++ out_behind (before ++ e ∷ []) es
+-- ---- events as they come
 
--- the output of a worker for its events: first it says that it runs
-abbrev pub worker_out : List Event → List Outgoing
-worker_out events = say running_payload ∷ out_behind [] events
+-- what comes is bytes
+abbrev pub IsOfBytes : Event → Type 0
+IsOfBytes (payload bytes) = AreBytes bytes
+IsOfBytes (datagram link from packet) = AreBytes packet
+IsOfBytes (bound port) = ⊤
+
+-- the SSRCs of which a Consumer that is asked for has streams
+abbrev pub ssrcs_of : ConsumeContent → List ℕ
+ssrcs_of content = map (λ e. e.ssrc) content.consumable

@@ -1,83 +1,56 @@
--- What holds of every list of events: the state that a worker keeps is that of the whole list.
-use Rattle.std.specs.Prelude.{◌≡◌, ℕ, ◌≤◌, List, [], ◌∷◌, ◌++◌, ◌&&◌, map, length, is_some, Some, None}
+-- What holds of every list of events.
+use Rattle.std.specs.Prelude.{◌≡◌, List, ◌++◌, true, map, Some, None, option_map}
 use Rattle.std.specs.List.{AllByRecursion}
-use Rattle.seq_manager.specs.Calls.{state_after}
-use Rattle.seq_manager.specs.Numbering.{unnumbered}
-use Rattle.seq_manager.specs.Outputs.{sent_numbers}
-use Rattle.rtp_packet.specs.Packet.{IsPacket, AreBytes}
-use Rattle.rtp_packet.specs.Reading.{fields_of}
-use Rattle.rtp_packet.specs.Rewriting.{with_fields}
-use Rattle.rtp_extension.specs.Reading.{elements_of}
-use Rattle.rtp_extension.specs.Rewriting.{with_ids, kept_of}
-use Rattle.worker_engine.specs.Objects.{Producer, Consumer, nothing_yet}
-use Rattle.worker_engine.specs.Emits.{ConsumerKey, consumer_at, calls_from, received_at, Passed, passed_at, emission, emits, latest_number, stretches_of, out_behind}
-use Rattle.worker_engine.specs.Packets.{Received, is_active, has_payload_type, own_ssrc, passed_id}
-use Rattle.worker_engine.specs.Run.{Event, payload, datagram, worker_after, said_from}
+use Rattle.pipe_consumer.specs.Emits.{pipe_emits}
+use Rattle.pipe_consumer.specs.Streams.{sent, streams_after}
+use Rattle.worker_router.specs.State.{Sink, consumer_of}
+use Rattle.worker_calls.specs.State.{RouterAt, Worker, router_of}
+use Rattle.worker_engine.specs.Run.{Event, after, after_all, worker_after, out, out_from}
+use Rattle.worker_engine.specs.Emits.{ConsumerKey, IsOfBytes, ssrcs_of, sink_at, IsMadeBy, FlagsAreTheirs, calls_from, stays, emits_from, told_at, router_at, emitted_in}
 
--- each number of an event's bytes is a byte's
-abbrev pub AreEventBytes : Event → Type 0
-AreEventBytes (payload bytes) = AreBytes bytes
-AreEventBytes (datagram link from bytes) = AreBytes bytes
+-- What a Consumer emits over events through which it stays is what its streams send by the calls that the events are to it.
+abbrev pub EmitsAreOfTheCalls : Type 0
+EmitsAreOfTheCalls =
+    (before later : List Event) (key : ConsumerKey) (c : Sink) → sink_at (worker_after before) key ≡ Some c → stays (worker_after before) later key ≡ true →
+    emits_from (worker_after before) later key ≡ map (λ one. one.1) (sent c.streams (calls_from (worker_after before) later key))
 
-abbrev pub AreEvents : List Event → Type 0
-AreEvents events = AllByRecursion AreEventBytes events
+-- Its streams behind the events are those behind these calls.
+abbrev pub StreamsAreOfTheCalls : Type 0
+StreamsAreOfTheCalls =
+    (before later : List Event) (key : ConsumerKey) (c : Sink) → sink_at (worker_after before) key ≡ Some c → stays (worker_after before) later key ≡ true →
+    option_map (λ d. d.streams) (sink_at (after_all (worker_after before) later) key)
+    ≡ Some (streams_after c.streams (calls_from (worker_after before) later key))
 
--- a Consumer's numbering is the state that its stretches leave
-abbrev pub NumberingIsOfTheStretches : Type 0
-NumberingIsOfTheStretches =
-    (events : List Event) (key : ConsumerKey) (p : Producer) (c : Consumer) → AreEvents events → consumer_at (worker_after events) key ≡ Some (p, c)
-    → c.numbering ≡ state_after unnumbered (calls_from nothing_yet events key)
+-- By an event there goes out what is told, and then what each Consumer emits, addressed, in order of making.
+abbrev pub OutIsTheEmissions : Type 0
+OutIsTheEmissions =
+    (before : List Event) (e : Event) →
+    out (worker_after before) e ≡ told_at (worker_after before) e ++ emitted_in (worker_after before) e (router_at (worker_after before) e)
 
--- what is given out event by event, from the state that is kept, is the output of the whole list
-abbrev pub SaidIsTheOutput : Type 0
-SaidIsTheOutput = (events : List Event) → AreEvents events → said_from nothing_yet events ≡ out_behind [] events
+-- A Consumer that is there behind an event and wasn't before it was made by it: it begins with what the event asks for.
+abbrev pub NewConsumersBegin : Type 0
+NewConsumersBegin =
+    (before : List Event) (e : Event) (key : ConsumerKey) (c : Sink) → sink_at (worker_after before) key ≡ None → sink_at (after (worker_after before) e) key ≡ Some c →
+    IsMadeBy e key c
 
--- the sequence numbers of what a Consumer emits are those of its stretches
-abbrev pub EmitsAreNumberedByStretches : Type 0
-EmitsAreNumberedByStretches =
-    (events : List Event) (key : ConsumerKey) → AreEvents events
-    → map (λ bytes. (fields_of bytes).seq) (emits events key) ≡ sent_numbers (stretches_of events key)
+-- Behind any events a Consumer is told connected exactly where its transport is, and its Producer's pause exactly where that is paused.
+abbrev pub FlagsAreTheObjects : Type 0
+FlagsAreTheObjects =
+    (events : List Event) (key : ConsumerKey) (r : RouterAt) (c : Sink) → router_of (worker_after events) key.router ≡ Some r →
+    consumer_of r.router key.consumer ≡ Some c → FlagsAreTheirs r.router.transports r.router.producers c
 
--- an emitted packet is a packet, with its number, the Consumer's SSRC, the mapped payload type and the new ids of elements, and the received
--- one in all else
-abbrev pub EmittedIsTheReceived : Type 0
-EmittedIsTheReceived =
-    (before : List Event) (e : Event) (key : ConsumerKey) (p : Passed) (bytes : List ℕ)
-    → AreEvents (before ++ e ∷ []) → passed_at (worker_after before) e key ≡ Some p → emission before key e ≡ Some bytes
-    → IsPacket
-    (with_fields (with_ids (passed_id p.received.producer p.consumer) p.received.fields) (latest_number (before ++ e ∷ []) key) p.ssrc p.received.taken.payload_type)
-    bytes
+-- From the event that made it on, a Consumer emits what its parameters, mapped SSRCs and first flags make of all the calls that the
+-- events are to it: the packets of its stretches, rewritten, under the output numbers of all stretches.
+abbrev pub ConsumersEmitTheirStretches : Type 0
+ConsumersEmitTheirStretches =
+    (before later : List Event) (e : Event) (key : ConsumerKey) (c : Sink) → sink_at (after (worker_after before) e) key ≡ Some c →
+    stays (after (worker_after before) e) later key ≡ true → AllByRecursion IsOfBytes later → (made : IsMadeBy e key c) →
+    emits_from (after (worker_after before) e) later key
+    ≡ map (λ one. one.1) (pipe_emits made.content.params (ssrcs_of made.content) c.flags (calls_from (after (worker_after before) e) later key))
 
--- what the packet was that the Producer received
-abbrev pub ReceivedIsAPacket : Type 0
-ReceivedIsAPacket =
-    (before : List Event) (e : Event) (key : ConsumerKey) (p : Passed) → AreEvents (before ++ e ∷ []) → passed_at (worker_after before) e key ≡ Some p
-    → IsPacket p.received.fields p.received.packet
+-- What goes out in one run and then in another is what goes out in both, and the state is that of both.
+abbrev pub OutGoesOn : Type 0
+OutGoesOn = (w : Worker) (before later : List Event) → out_from w (before ++ later) ≡ out_from w before ++ out_from (after_all w before) later
 
--- its elements are the received ones, in order, whose mapped ids the Consumer's parameters have, under these
-abbrev pub EmittedElements : Type 0
-EmittedElements =
-    (before : List Event) (e : Event) (key : ConsumerKey) (p : Passed) (bytes : List ℕ)
-    → AreEvents (before ++ e ∷ []) → passed_at (worker_after before) e key ≡ Some p → emission before key e ≡ Some bytes
-    → elements_of (fields_of bytes).extension ≡ kept_of (passed_id p.received.producer p.consumer) p.received.fields.extension
-
--- it is never longer than the received one
-abbrev pub EmittedIsNoLonger : Type 0
-EmittedIsNoLonger =
-    (before : List Event) (e : Event) (key : ConsumerKey) (p : Passed) (bytes : List ℕ)
-    → AreEvents (before ++ e ∷ []) → passed_at (worker_after before) e key ≡ Some p → emission before key e ≡ Some bytes
-    → length bytes ≤ length p.received.packet
-
--- a Consumer that is there emits exactly where it is active, its parameters have the mapped payload type of what its Producer receives,
--- and one of its encodings has the mapped SSRC
-abbrev pub EmitsExactlyWhatItPasses : Type 0
-EmitsExactlyWhatItPasses =
-    (before : List Event) (e : Event) (key : ConsumerKey) (r : Received) (p : Producer) (c : Consumer)
-    → received_at (worker_after before) e key.producer ≡ Some r → consumer_at (worker_after before) key ≡ Some (p, c)
-    → is_some (emission before key e)
-    ≡ is_active p c && has_payload_type c.params r.taken.payload_type && is_some (own_ssrc c.mapped c.params.encodings r.taken.ssrc)
-
--- and nothing where its Producer receives nothing
-abbrev pub EmitsOnlyWhatIsReceived : Type 0
-EmitsOnlyWhatIsReceived =
-    (before : List Event) (e : Event) (key : ConsumerKey) → received_at (worker_after before) e key.producer ≡ None → emission before key e ≡ None
+abbrev pub AfterGoesOn : Type 0
+AfterGoesOn = (w : Worker) (before later : List Event) → after_all w (before ++ later) ≡ after_all (after_all w before) later

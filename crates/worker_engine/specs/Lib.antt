@@ -1,14 +1,7 @@
-pub mod Objects
-pub mod Contents
-pub mod Requests
-pub mod Tables
-pub mod Asked
 pub mod Packets
 pub mod Run
+pub mod Outside
+pub mod Forwarding
 pub mod Emits
 pub mod Laws
-pub mod PacketTables
-pub mod Forwarding
 pub mod Rows
-pub mod ContentRows
-pub mod Lower

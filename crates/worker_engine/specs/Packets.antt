@@ -1,157 +1,156 @@
--- What becomes of a packet: which Producer takes it, and what each of its Consumers sends on. RFC 3550 has the fields; what is
--- mapped to what is this project's own, after mediasoup.
-use Rattle.std.specs.Prelude.{ℕ, List, [], ◌∷◌, length, ◌&&◌, ◌==◌, Bool, true, false, not, nat_le, bytes_eq, find, is_some, if◌then◌else◌, Option, Some, None, option_map, option_and_then}
-use Rattle.std.specs.List.{list_any}
+-- What becomes of a packet that comes to a worker: the transport by which it came takes it or not, the Producer that it is one of receives
+-- it, and each Consumer of that sends on what it passes. This project's own, after mediasoup.
+use Rattle.std.specs.Prelude.{ℕ, List, [], ◌∷◌, ◌++◌, length, Bool, true, false, nat_le, filter_map, is_some, if◌then◌else◌, Option, Some, None, option_map, option_and_then}
 use Rattle.rtp_packet.specs.Fault.{fault_of}
-use Rattle.rtp_packet.specs.Packet.{Fields, packet_of}
+use Rattle.rtp_packet.specs.Packet.{Fields}
 use Rattle.rtp_packet.specs.Reading.{fields_of}
-use Rattle.rtp_packet.specs.Rewriting.{with_fields}
-use Rattle.rtp_extension.specs.declared.mapped.Flags.{Flags}
-use Rattle.rtp_extension.specs.Activity.{is_active as is_active_with}
-use Rattle.rtp_extension.specs.Rewriting.{with_ids}
+use Rattle.rtp_extension.specs.declared.mapped.Mapped.{Mapped}
 use Rattle.ms_base.specs.declared.id.Id.{Id}
-use Rattle.rtp_params.specs.declared.codec.Codec.{Codec}
-use Rattle.rtp_params.specs.declared.encoding.Encoding.{Encoding}
-use Rattle.rtp_params.specs.declared.ext.Ext.{Ext}
-use Rattle.rtp_params.specs.declared.mapping.Mapping.{Mapping}
-use Rattle.rtp_params.specs.declared.params.Params.{Params}
-use Rattle.rtp_params.specs.Names.{is_rtx}
-use Rattle.rtp_params.specs.Table.{sent_exts}
-use Rattle.worker_engine.specs.declared.producer.Taken.{Taken}
-use Rattle.worker_engine.specs.Objects.{Consumer, Producer, Worker, ProducerKey, direct_key, producer_at}
+use Rattle.ms_base.specs.declared.tuple.Tuple.{Tuple}
+use Rattle.channel_msgs.specs.Packet.{packet_payload}
+use Rattle.plain_transport.specs.declared.accept.Accept.{Accept}
+use Rattle.plain_transport.specs.declared.accept.Accept.TheVariants as accept
+use Rattle.simple_consumer.specs.Sending.{Offer, offer}
+use Rattle.pipe_consumer.specs.Streams.{passed_by, behind_offer}
+use Rattle.worker_requests.specs.declared.notice.WorkerNotice.TheVariants.{TupleLearnt}
+use Rattle.worker_router.specs.State.{RouterState, Source, Sink, producer_of, consumers_of, is_of}
+use Rattle.worker_router.specs.Calls.{accept_at, behind_accept, is_learnt, remote_at, receives, receiver, change}
+use Rattle.worker_calls.specs.declared.place.Place.{Place}
+use Rattle.worker_calls.specs.State.{LinkAt, Worker, ProducerKey, RouterAt, router_of, place_of, link_of, direct_of, change_router}
+use Rattle.worker_calls.specs.Requests.{Outgoing, say, send, notify}
 
--- how long a packet may be
+-- how long a packet may be that a Producer receives
 abbrev pub max_packet : ℕ
 max_packet = 65535
 
--- the fields of a packet that is served: it is within the limit and parses
-unfoldable pub served_fields : List ℕ → Option Fields
-served_fields packet =
-    if nat_le (length packet) max_packet && not (is_some (fault_of packet)) then Some (fields_of packet) else None
+-- the fields of bytes that are a packet
+abbrev pub parsed : List ℕ → Option Fields
+parsed bytes = if is_some (fault_of bytes) then None else Some (fields_of bytes)
 
--- ---- the Producer's side
+-- ---- a packet that a Producer receives
 
--- what a number stands for: the first pair counts
-abbrev pub mapped_to : List (ℕ × ℕ) → ℕ → Option ℕ
-mapped_to pairs n = option_map (λ pair. pair.1) (find (λ pair. pair.0 == n) pairs)
-
--- a payload type is this one
-abbrev pub has_type : Option ℕ → ℕ → Bool
-has_type (Some own) t = own == t
-has_type None t = false
-
--- a codec of media has this payload type: those of retransmissions are set aside
-abbrev pub is_media_type : List Codec → ℕ → Bool
-is_media_type codecs t = list_any (λ codec. has_type codec.payload_type t && not (is_rtx codec)) codecs
-
--- an encoding has this SSRC as its own
-abbrev pub is_media_ssrc : List Encoding → ℕ → Bool
-is_media_ssrc encodings ssrc = list_any (λ e. e.ssrc == ssrc) encodings
-
-abbrev pub mapped_type : Params → Mapping → ℕ → Option ℕ
-mapped_type params mapping t = if is_media_type params.codecs t then mapped_to mapping.codecs t else None
-
-abbrev pub mapped_ssrc : Params → Mapping → ℕ → Option ℕ
-mapped_ssrc params mapping ssrc = if is_media_ssrc params.encodings ssrc then mapped_to mapping.encodings ssrc else None
-
-abbrev pub taken_as : Option ℕ → Option ℕ → Option Taken
-taken_as (Some ssrc) (Some payload_type) = Some (record { ssrc = ssrc; payload_type = payload_type })
-taken_as ssrc payload_type = None
-
--- None exactly where the packet's SSRC or payload type isn't one of the Producer's media ones
-abbrev pub taken : Params → Mapping → Fields → Option Taken
-taken params mapping f = taken_as (mapped_ssrc params mapping f.ssrc) (mapped_type params mapping f.payload_type)
-
--- ---- ids of elements (RFC 8285)
-
--- the first extension with this id, and with this uri
-abbrev pub ext_of_id : List Ext → ℕ → Option Ext
-ext_of_id exts id = find (λ e. e.id == id) exts
-
-abbrev pub ext_of_uri : List Ext → List ℕ → Option Ext
-ext_of_uri exts uri = find (λ e. bytes_eq e.uri uri) exts
-
--- the id among the consumable extensions that the uri of this one has there
-abbrev pub consumable_id : List Ext → Ext → Option ℕ
-consumable_id consumable e = option_map (λ c. c.id) (ext_of_uri consumable e.uri)
-
--- what the ids of these extensions stand for among the consumable ones
-abbrev pub id_among : List Ext → List Ext → ℕ → Option ℕ
-id_among consumable exts id = option_and_then (consumable_id consumable) (ext_of_id exts id)
-
--- of the Producer's ids: what is consumable are the supported extensions that are sent for its media
-abbrev pub mapped_id : Producer → ℕ → Option ℕ
-mapped_id p id = id_among (sent_exts p.media) p.params.exts id
-
--- an extension of the parameters has this id
-abbrev pub has_ext : Params → ℕ → Bool
-has_ext params id = list_any (λ e. e.id == id) params.exts
-
-abbrev pub if_ext : Params → ℕ → Option ℕ
-if_ext params id = if has_ext params id then Some id else None
-
--- of ids that are mapped so those that the parameters have
-abbrev pub id_within : Params → (ℕ → Option ℕ) → ℕ → Option ℕ
-id_within params ids id = option_and_then (if_ext params) (ids id)
-
--- the new id under which a Consumer passes an element on, if it does: the mapped one, if its parameters have that
-abbrev pub passed_id : Producer → Consumer → ℕ → Option ℕ
-passed_id p c id = id_within c.params (mapped_id p) id
-
--- ---- the Consumer's side
-
--- a direct transport is always connected
-abbrev pub flags_of : Producer → Consumer → Flags
-flags_of p c = record { connected = true; paused = c.paused; producer_paused = p.paused }
-
-abbrev pub is_active : Producer → Consumer → Bool
-is_active p c = is_active_with (flags_of p c)
-
--- its parameters have the payload type
-abbrev pub has_payload_type : Params → ℕ → Bool
-has_payload_type params t = list_any (λ codec. has_type codec.payload_type t) params.codecs
-
--- the Consumer's own SSRC for a mapped one: that of its encoding at the same place
-abbrev pub own_ssrc : List ℕ → List Encoding → ℕ → Option ℕ
-own_ssrc [] encodings ssrc = None
-own_ssrc (m ∷ ms) [] ssrc = None
-own_ssrc (m ∷ ms) (e ∷ es) ssrc = if m == ssrc then Some e.ssrc else own_ssrc ms es ssrc
-
--- the SSRC under which the Consumer passes on what is so mapped
-abbrev pub passes : Consumer → Taken → Option ℕ
-passes c t = if has_payload_type c.params t.payload_type then own_ssrc c.mapped c.params.encodings t.ssrc else None
-
--- the fields of a packet with these new ids of elements, a Consumer's sequence number and SSRC and the mapped payload type; all others
--- stay
-abbrev pub passed_fields : Fields → (ℕ → Option ℕ) → Taken → ℕ → ℕ → Fields
-passed_fields f ids t number ssrc = with_fields (with_ids ids f) number ssrc t.payload_type
-
--- the packet with these
-abbrev pub passed_on : Fields → (ℕ → Option ℕ) → Taken → ℕ → ℕ → List ℕ
-passed_on f ids t number ssrc = packet_of (passed_fields f ids t number ssrc)
-
--- the SSRC under which a Consumer passes on a packet of this event, if it does: it is active, and the packet is for it
-abbrev pub passed_by : Producer → Consumer → Taken → Option ℕ
-passed_by p c t = if is_active p c then passes c t else None
-
--- ---- a packet and all Consumers
-
--- a packet that a Producer receives
 pub record Received : Type 0 where
-  pub key : ProducerKey
-  pub producer : Producer
+  pub router : Id
+  pub producer : Source
+  pub mapped : Mapped
   pub packet : List ℕ
-  pub fields : Fields
-  pub taken : Taken
 
-abbrev pub received_as : ProducerKey → Producer → List ℕ → Fields → Option Received
-received_as key p packet f =
-    option_map (λ t. record { key = key; producer = p; packet = packet; fields = f; taken = t }) (taken p.params p.mapping f)
+-- as its Consumers are offered it
+abbrev pub offer_of : Received → Offer
+offer_of r = offer r.mapped r.producer.stream.ids r.packet
 
-abbrev pub received_by : Worker → List ℕ → Fields → ProducerKey → Option Received
-received_by w packet f key = option_and_then (λ p. received_as key p packet f) (producer_at w key)
+abbrev pub received_as : Id → List ℕ → Fields → Source → Option Received
+received_as router packet f p =
+    option_map (λ m. record { router = router; producer = p; mapped = m; packet = packet }) (receives f p)
 
--- The packet for this id, as the earliest made direct Producer with the id receives it. None where there is no such Producer, where
--- the packet isn't served, and where its SSRC or payload type isn't the Producer's.
-unfoldable pub received : Worker → Id → List ℕ → Option Received
-received w id packet = option_and_then (λ f. option_and_then (received_by w packet f) (direct_key w id)) (served_fields packet)
+-- a packet over the limit is none that a Producer receives
+abbrev pub if_within : {A : Type 0} → List ℕ → Option A → Option A
+if_within packet found = if nat_le (length packet) max_packet then found else None
+
+-- ---- by the channel: for the earliest made direct Producer with the id that it names
+
+abbrev pub received_by_key : Worker → List ℕ → ProducerKey → Fields → Option Received
+received_by_key w packet key f =
+    option_and_then (λ r. option_and_then (received_as key.router packet f) (producer_of r.router key.producer)) (router_of w key.router)
+
+unfoldable pub received_direct : Worker → Id → List ℕ → Option Received
+received_direct w id packet =
+    if_within packet (option_and_then (λ f. option_and_then (λ key. received_by_key w packet key f) (direct_of w id)) (parsed packet))
+
+-- ---- by a socket: where the transport takes what comes from the tuple
+
+-- what the transport at a place answers to a packet from a tuple
+abbrev pub accept_in : Worker → Place → Tuple → Option Accept
+accept_in w at from = option_and_then (λ r. accept_at r.router at.transport from) (router_of w at.router)
+
+-- the worker behind that: a tuple may be learnt
+abbrev pub heard_at : Worker → Place → Tuple → Worker
+heard_at w at from = change_router at.router (λ r. behind_accept r at.transport from) w
+
+abbrev pub is_taken : Option Accept → Bool
+is_taken None = false
+is_taken (Some accept.No) = false
+is_taken (Some other) = true
+
+abbrev pub received_at_place : Worker → Place → List ℕ → Fields → Option Received
+received_at_place w at packet f =
+    option_and_then (λ r. option_and_then (received_as at.router packet f) (receiver r.router at.transport f)) (router_of w at.router)
+
+abbrev pub received_if : Bool → Worker → Place → List ℕ → Fields → Option Received
+received_if taken w at packet f = if taken then if_within packet (received_at_place w at packet f) else None
+
+-- the notice of a tuple that is learnt
+abbrev pub told_learnt : Option Accept → Place → Tuple → List Outgoing
+told_learnt answer at from = if is_learnt answer then notify (TupleLearnt at.transport from) ∷ [] else []
+
+-- ---- what its Consumers send on
+
+-- where a Consumer's packet goes: to the other end of its transport, or as a payload for its id
+abbrev pub outgoing_to : Option ℕ → Option Tuple → Id → List ℕ → Outgoing
+outgoing_to (Some link) (Some to) id packet = send link to packet
+outgoing_to link to id packet = say (packet_payload id packet)
+
+abbrev pub outgoing_for : Worker → RouterAt → Sink → List ℕ → Outgoing
+outgoing_for w r c packet =
+    outgoing_to (option_map (λ l. l.link) (link_of w (record { router = r.id; transport = c.transport }))) (remote_at r.router c.transport) c.id packet
+
+-- what goes out for a Consumer, if it sends the packet on
+abbrev pub emission_for : Worker → RouterAt → Offer → Sink → Option Outgoing
+emission_for w r o c = option_map (outgoing_for w r c) (passed_by c.streams o)
+
+-- Consumer by Consumer, in order of making
+abbrev pub emissions_in : Worker → Received → RouterAt → List Outgoing
+emissions_in w got r = filter_map (emission_for w r (offer_of got)) (consumers_of r.router got.producer.id)
+
+abbrev pub emissions_at : Worker → Received → Option RouterAt → List Outgoing
+emissions_at w got None = []
+emissions_at w got (Some r) = emissions_in w got r
+
+abbrev pub emissions_of : Worker → Option Received → List Outgoing
+emissions_of w None = []
+emissions_of w (Some got) = emissions_at w got (router_of w got.router)
+
+-- each of them has been offered it
+abbrev pub offered_to : Offer → Sink → Sink
+offered_to o c = record c { streams = behind_offer c.streams o }
+
+abbrev pub with_offered : Id → Offer → RouterState → RouterState
+with_offered producer o r = record r { consumers = change (is_of producer) (offered_to o) r.consumers }
+
+abbrev pub after_received : Worker → Option Received → Worker
+after_received w None = w
+after_received w (Some got) = change_router got.router (with_offered got.producer.id (offer_of got)) w
+
+-- ---- the whole of it
+
+abbrev pub after_direct : Worker → Id → List ℕ → Worker
+after_direct w id packet = after_received w (received_direct w id packet)
+
+abbrev pub out_direct : Worker → Id → List ℕ → List Outgoing
+out_direct w id packet = emissions_of w (received_direct w id packet)
+
+-- a packet that the transport takes is received behind what is learnt of it
+abbrev pub received_from : Worker → Place → Tuple → List ℕ → Fields → Option Received
+received_from w at from packet f = received_if (is_taken (accept_in w at from)) (heard_at w at from) at packet f
+
+abbrev pub after_packet_at : Worker → Place → Tuple → List ℕ → Fields → Worker
+after_packet_at w at from packet f = after_received (heard_at w at from) (received_from w at from packet f)
+
+abbrev pub out_packet_at : Worker → Place → Tuple → List ℕ → Fields → List Outgoing
+out_packet_at w at from packet f =
+    told_learnt (accept_in w at from) at from ++ emissions_of (heard_at w at from) (received_from w at from packet f)
+
+abbrev pub after_parsed : Worker → Option LinkAt → Tuple → List ℕ → Option Fields → Worker
+after_parsed w (Some l) from packet (Some f) = after_packet_at w l.place from packet f
+after_parsed w l from packet f = w
+
+abbrev pub out_parsed : Worker → Option LinkAt → Tuple → List ℕ → Option Fields → List Outgoing
+out_parsed w (Some l) from packet (Some f) = out_packet_at w l.place from packet f
+out_parsed w l from packet f = []
+
+-- what doesn't parse, and what comes by a link that is none, is dropped
+abbrev pub after_datagram : Worker → ℕ → Tuple → List ℕ → Worker
+after_datagram w link from packet = after_parsed w (place_of w link) from packet (parsed packet)
+
+abbrev pub out_datagram : Worker → ℕ → Tuple → List ℕ → List Outgoing
+out_datagram w link from packet = out_parsed w (place_of w link) from packet (parsed packet)

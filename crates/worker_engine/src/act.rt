@@ -1,11 +1,4 @@
-use ms_base::{Bytes, Id, Tuple};
-
-/// What the worker is to do with its outside.
-#[derive(Debug, Drop, PartialEq, Eq)]
-pub enum Act {
-    /// Send this payload on the channel.
-    Say(Bytes),
-}
+use ms_base::{Id, Tuple};
 
 /// Where a packet came from.
 #[derive(Clone, Copy, Debug, PartialEq, Eq)]

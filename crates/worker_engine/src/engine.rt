@@ -1,53 +1,46 @@
 //! A worker without its outside.
 
-ghost use Rattle.std.specs.Prelude.{◌≡◌, ◌++◌, ◌≤◌, All, length, map, option_map, Some, None, IfOk, IfErr, OnOk, OnErr};
-ghost use Rattle.serde_json.specs.View.{view};
-ghost use Rattle.channel_frames.specs.Frames.{max_payload};
-ghost use Rattle.channel_msgs.specs.Read.{request_of};
-ghost use Rattle.channel_msgs.specs.View.{request_view};
+ghost use Rattle.std.specs.Prelude.{◌≡◌, ◌++◌, ◌≤◌, map, option_map, option_and_then, option_copied, Some, None, IfOk, OnOk, OnErr};
+ghost use Rattle.ms_devices.specs.Causes.{HasCause};
+ghost use Rattle.rtp_packet.specs.Packet.{IsPacket};
 ghost use Rattle.rtp_params.specs.Readable.{Each};
-ghost use Rattle.worker_engine.specs.declared.act.Act.TheVariants.{Say};
-ghost use Rattle.worker_engine.specs.Asked.{Carries, Decides, IsTransportToBe, IsProducerToBe, IsConsumerToBe};
-ghost use Rattle.worker_engine.specs.Objects.{nothing_yet};
-ghost use Rattle.worker_engine.specs.Requests.{router_with_transport, made, made_router, made_transport, made_producer, made_consumer, reply_payload};
-ghost use Rattle.worker_engine.specs.Run.{request_or_nothing, after_heard, after_request, said_of};
+ghost use Rattle.worker_calls.specs.Acts.{outgoing, IsShort};
+ghost use Rattle.worker_calls.specs.Requests.{after_bound, out_bound};
+ghost use Rattle.worker_calls.specs.State.{idle, direct_of, place_of};
+ghost use Rattle.worker_engine.specs.Forwarding.{after_from, out_by, behind_served, out_served};
+ghost use Rattle.worker_engine.specs.Outside.{call_of, Made, StopsAtAFault};
+ghost use Rattle.worker_engine.specs.Packets.{accept_in, heard_at, is_taken, told_learnt, if_within, received_by_key, after_received, emissions_of, after_parsed, out_parsed};
+ghost use Rattle.worker_engine.specs.Run.{after_payload, out_payload};
 
-use crate::act::Act;
-use crate::content::{ConsumeContent, ProduceContent, consume_content, is_direct, produce_content};
-use crate::directs::Directs;
-use crate::fault::Fault;
-use crate::refusal::Refusal;
-use crate::reply::{accepted, consumed, produced, refused};
-use crate::request::{Asked, read_asked};
-use crate::router::Router;
-use crate::routers::Routers;
-use channel_msgs::{MessageFault, Request, read_request, what_is_read_can_be_written};
-use ms_base::{Bytes, Id, Kind, NoMemory};
-use serde_json::Value;
+use crate::act::PacketFrom;
+use crate::forward::{BUFFER, forward, tell_learnt};
+use crate::incoming::{Incoming, received_at, received_directly};
+use crate::lent::accept;
+use channel_msgs::{MessageFault, read_request};
+use ms_base::{Id, NoMemory, Tuple};
+use ms_devices::{Failed, Outbox};
+use plain_transport::Accept;
+use rtp_packet::{Packet, View};
 use std::alloc::Global;
 use std::marker::Model;
+use worker_calls::{Act, Place, Worker};
 
-/// How many bytes the frame of a packet has at most: the length, the letter, the id and the packet.
-const BUFFER: usize = 65_576;
-
-/// A worker without its outside. Contracts see it as the Routers that stand in it, with their objects, and its
-/// direct Producers in order of making.
+/// A worker without its outside. Contracts see it as what stands in it.
 #[derive(Debug, Drop)]
 pub struct Engine {
-    pub(crate) alloc: Global,
-    /// Where the frame of a packet is written.
-    pub(crate) buffer: Vec<u8>,
-    pub(crate) routers: Routers,
-    pub(crate) directs: Directs,
+    alloc: Global,
+    // Where a frame is written.
+    buffer: Vec<u8>,
+    worker: Worker,
 }
 
 impl Model for Engine {
     ghost use Rattle.std.specs.Prelude.{◌≡◌, length};
-    ghost use Rattle.worker_engine.specs.Objects.{Worker};
+    ghost use Rattle.worker_calls.specs.State.{Worker as Standing};
 
-    ghost Value = { Worker };
+    ghost Value = { Standing };
 
-    ghost view = { λ e. record { routers = e.routers; directs = e.directs.keys } };
+    ghost view = { λ e. e.worker };
 
     ghost invariant = { λ e. length e.buffer.items ≡ 65576 };
 }
@@ -55,219 +48,159 @@ impl Model for Engine {
 impl Engine {
     /// A worker in which nothing stands yet.
     pub fn new(alloc: Global) -> Result<Engine, NoMemory>
-        ensures { IfOk result (λ engine. engine ≡ nothing_yet) }
+        ensures { IfOk result (λ engine. engine ≡ idle) }
     {
         Ok(Engine {
             alloc,
             buffer: vec![in alloc; 0; BUFFER]?,
-            routers: Routers::new(alloc),
-            directs: Directs::new(alloc),
+            worker: Worker::new(alloc),
         })
     }
 
-    /// Hears a payload that is no packet, and adds what is to be done behind the acts that are there. A request
-    /// is carried out or refused, with the one reply that says so; any other payload is dropped.
-    #[tactic(auto, using(crate::proofs::ReplyLemmas::said_fits))]
+    /// Hears a payload that is no packet, and adds what is to be done behind the acts that are there. A request is
+    /// carried out or refused, and any other payload is dropped.
     pub fn on_payload(&mut self, payload: &[u8], into: &mut Vec<Act>) -> Result<(), NoMemory>
-        ensures state { OnOk result (self.new ≡ after_heard self.old (request_or_nothing (request_of payload.now))) }
-        ensures acts { OnOk result (into.new.items ≡ into.old.items ++ map Say (said_of self.old (request_or_nothing (request_of payload.now)))) }
-
-        // What is said fits into a frame.
-        ensures limit { All (λ said. length said ≤ max_payload) (said_of self.old (request_or_nothing (request_of payload.now))) }
-
+        ensures state { OnOk result (self.new ≡ after_payload self.old None payload.now) }
+        ensures acts { OnOk result (map outgoing into.new.items ≡ map outgoing into.old.items ++ out_payload self.old None payload.now) }
+        // What is said is short: it fits into a frame.
+        ensures short { OnOk result (Each IsShort (out_payload self.old None payload.now)) }
         // Where memory runs out nothing has changed.
         ensures err { OnErr result (self.new ≡ self.old) }
         ensures err_acts { OnErr result (into.new.items ≡ into.old.items) }
     {
-        what_is_read_can_be_written();
-        let request = match read_request(self.alloc, payload) {
-            Ok(request) => request,
-            Err(MessageFault::Unexpected) => return Ok(()),
-            Err(MessageFault::NoMemory) => return Err(NoMemory),
-        };
-        into.reserve(1)?;
-        let reply = self.reply_to(&request)?;
-        into.push_reserved(Act::Say(reply));
-        Ok(())
+        match read_request(self.alloc, payload) {
+            Ok(request) => self.worker.on_request(&request, into),
+            Err(MessageFault::Unexpected) => Ok(()),
+            Err(MessageFault::NoMemory) => Err(NoMemory),
+        }
     }
 
-    // Carries out a request or refuses it, and gives the payload of the reply.
-    fn reply_to(&mut self, request: &Request) -> Result<Bytes, NoMemory>
-        ensures reply { IfOk result (λ bytes. bytes ≡ reply_payload self.old (request_view request.now)) }
-        ensures state { OnOk result (self.new ≡ after_request self.old (request_view request.now)) }
+    /// Hears which port the link has got that waits for one, or that it could not be opened, and adds what is to be
+    /// done behind the acts that are there.
+    pub fn on_bound(&mut self, port: Option<u16>, into: &mut Vec<Act>) -> Result<(), NoMemory>
+        ensures state { OnOk result (self.new ≡ after_bound self.old port) }
+        ensures acts { OnOk result (map outgoing into.new.items ≡ map outgoing into.old.items ++ out_bound self.old port) }
+        ensures short { OnOk result (Each IsShort (out_bound self.old port)) }
         ensures err { OnErr result (self.new ≡ self.old) }
+        ensures err_acts { OnErr result (into.new.items ≡ into.old.items) }
     {
-        match self.carry_out(request) {
-            Ok(reply) => Ok(reply),
-            Err(Fault::Refused(refusal)) => refused(self.alloc, request.id, refusal),
-            Err(Fault::NoMemory) => Err(NoMemory),
+        self.worker.on_bound(port, into)
+    }
+
+    /// The link that waits for its port.
+    pub fn is_waiting(&self) -> Option<u32>
+        ensures { result ≡ option_map (λ b. b.link) self.now.waiting }
+    {
+        self.worker.is_waiting()
+    }
+
+    /// Hears a packet. What doesn't parse is dropped. A transport that is told its other end by it says so, and the
+    /// Consumers of the Producer that receives it send on what they pass, each by one call, in order of making. A
+    /// datagram that fails is lost, and the others go out all the same. No memory is taken.
+    ///
+    /// # Errors
+    ///
+    /// `Failed` comes exactly where a call on the channel failed. It is the last that was made.
+    pub fn on_packet<O: Outbox>(
+        &mut self,
+        from: PacketFrom,
+        packet: &[u8],
+        outbox: &mut O,
+    ) -> Result<(), Failed>
+        ensures state { OnOk result (self.new ≡ after_from self.old from packet.now) }
+        ensures told { OnOk result (Made (map call_of (out_by self.old from packet.now)) (O.link_faults outbox.old) (O.link_faults outbox.new) (O.calls outbox.old) (O.calls outbox.new)) }
+        ensures err { OnErr result (StopsAtAFault (out_by self.old from packet.now) (O.link_faults outbox.old) (O.link_faults outbox.new) (O.calls outbox.old) (O.calls outbox.new)) }
+        ensures cause { HasCause (O.channel_faults outbox.old) (O.channel_faults outbox.new) result }
+        ensures links { O.link_faults outbox.old ≤ O.link_faults outbox.new }
+    {
+        let Ok(view) = Packet::parse(packet) else {
+            return Ok(());
+        };
+        match from {
+            PacketFrom::Link(link, tuple) => self.on_datagram(link, tuple, &view, packet, outbox),
+            PacketFrom::Direct(id) => self.on_direct(id, &view, packet, outbox),
         }
     }
 
-    // Carries out a request, and gives the payload of the reply.
-    #[tactic(auto, unfolding(crate::specs::Requests::made))]
-    fn carry_out(&mut self, request: &Request) -> Result<Bytes, Fault>
-        ensures { Carries result self.old self.new request.now.id (made self.old (request_view request.now)) }
+    // Hears a packet for the direct Producer of an id.
+    fn on_direct<O: Outbox>(
+        &mut self,
+        id: Id,
+        view: &View<'_>,
+        packet: &[u8],
+        outbox: &mut O,
+    ) -> Result<(), Failed>
+        requires { IsPacket view.now packet.now }
+        ensures state { OnOk result (self.new ≡ after_received self.old (if_within packet.now (option_and_then (λ key. received_by_key self.old packet.now key view.now) (direct_of self.old id)))) }
+        ensures told { OnOk result (Made (map call_of (emissions_of self.old (if_within packet.now (option_and_then (λ key. received_by_key self.old packet.now key view.now) (direct_of self.old id))))) (O.link_faults outbox.old) (O.link_faults outbox.new) (O.calls outbox.old) (O.calls outbox.new)) }
+        ensures err { OnErr result (StopsAtAFault (emissions_of self.old (if_within packet.now (option_and_then (λ key. received_by_key self.old packet.now key view.now) (direct_of self.old id)))) (O.link_faults outbox.old) (O.link_faults outbox.new) (O.calls outbox.old) (O.calls outbox.new)) }
+        ensures cause { HasCause (O.channel_faults outbox.old) (O.channel_faults outbox.new) result }
+        ensures links { O.link_faults outbox.old ≤ O.link_faults outbox.new }
     {
-        let content = request.content.as_ref();
-        match read_asked(request)? {
-            Asked::CreateRouter { router } => self.create_router(request.id, router),
-            Asked::CreateDirectTransport { router, transport } => {
-                self.create_transport(request.id, router, transport, content)
+        let incoming = received_directly(&self.worker, id, view, packet);
+        self.serve(incoming.as_ref(), outbox)
+    }
+
+    // Hears a packet that came for a link.
+    fn on_datagram<O: Outbox>(
+        &mut self,
+        link: u32,
+        from: Tuple,
+        view: &View<'_>,
+        packet: &[u8],
+        outbox: &mut O,
+    ) -> Result<(), Failed>
+        requires { IsPacket view.now packet.now }
+        ensures state { OnOk result (self.new ≡ after_parsed self.old (place_of self.old link) from packet.now (Some view.now)) }
+        ensures told { OnOk result (Made (map call_of (out_parsed self.old (place_of self.old link) from packet.now (Some view.now))) (O.link_faults outbox.old) (O.link_faults outbox.new) (O.calls outbox.old) (O.calls outbox.new)) }
+        ensures err { OnErr result (StopsAtAFault (out_parsed self.old (place_of self.old link) from packet.now (Some view.now)) (O.link_faults outbox.old) (O.link_faults outbox.new) (O.calls outbox.old) (O.calls outbox.new)) }
+        ensures cause { HasCause (O.channel_faults outbox.old) (O.channel_faults outbox.new) result }
+        ensures links { O.link_faults outbox.old ≤ O.link_faults outbox.new }
+    {
+        let Some(at) = self.worker.place_of(link) else {
+            return Ok(());
+        };
+        if !self.hear(at, from, outbox)? {
+            return Ok(());
+        }
+        let incoming = received_at(&self.worker, at, view, packet);
+        self.serve(incoming.as_ref(), outbox)
+    }
+
+    // Whether a transport takes what comes from a tuple. Where it learns the tuple by it, it says so.
+    fn hear<O: Outbox>(&mut self, at: Place, from: Tuple, outbox: &mut O) -> Result<bool, Failed>
+        ensures taken { IfOk result (λ taken. taken ≡ is_taken (accept_in self.old at from)) }
+        ensures state { self.new ≡ heard_at self.old at from }
+        ensures told { OnOk result (Made (map call_of (told_learnt (accept_in self.old at from) at from)) (O.link_faults outbox.old) (O.link_faults outbox.new) (O.calls outbox.old) (O.calls outbox.new)) }
+        ensures err { OnErr result (StopsAtAFault (told_learnt (accept_in self.old at from) at from) (O.link_faults outbox.old) (O.link_faults outbox.new) (O.calls outbox.old) (O.calls outbox.new)) }
+        ensures cause { HasCause (O.channel_faults outbox.old) (O.channel_faults outbox.new) result }
+        ensures links { O.link_faults outbox.new ≡ O.link_faults outbox.old }
+    {
+        match accept(&mut self.worker, at, from) {
+            Some(Accept::Yes) => Ok(true),
+            Some(Accept::Learnt) => {
+                tell_learnt(at.transport, from, &mut self.buffer, outbox)?;
+                Ok(true)
             }
-            Asked::Produce {
-                router,
-                transport,
-                producer,
-            } => self.produce(request.id, router, transport, producer, content),
-            Asked::Consume {
-                router,
-                transport,
-                producer,
-                consumer,
-            } => self.consume(request.id, router, transport, producer, consumer, content),
+            Some(Accept::No) | None => Ok(false),
         }
     }
 
-    #[tactic(auto, unfolding(crate::specs::Requests::made_router))]
-    fn create_router(&mut self, request: u32, id: Id) -> Result<Bytes, Fault>
-        ensures { Carries result self.old self.new request (made_router self.old id) }
-    {
-        if self.routers.has(id) {
-            return Err(Fault::Refused(Refusal::Exists));
-        }
-        let reply = accepted(self.alloc, request, None)?;
-        let router = Router::new(self.alloc, id);
-        self.routers.add(router)?;
-        Ok(reply)
-    }
-
-    fn create_transport(
+    // Serves a packet that a Producer received, if one did.
+    fn serve<O: Outbox>(
         &mut self,
-        request: u32,
-        router: Id,
-        id: Id,
-        content: Option<&Value>,
-    ) -> Result<Bytes, Fault>
-        ensures { Carries result self.old self.new request (made_transport self.old (option_map (λ v. view v.now) content.entry) router id) }
+        incoming: Option<&Incoming<'_>>,
+        outbox: &mut O,
+    ) -> Result<(), Failed>
+        ensures state { OnOk result (self.new ≡ behind_served (option_copied incoming.entry) self.old) }
+        ensures told { OnOk result (Made (map call_of (out_served (option_copied incoming.entry) self.old)) (O.link_faults outbox.old) (O.link_faults outbox.new) (O.calls outbox.old) (O.calls outbox.new)) }
+        ensures err { OnErr result (StopsAtAFault (out_served (option_copied incoming.entry) self.old) (O.link_faults outbox.old) (O.link_faults outbox.new) (O.calls outbox.old) (O.calls outbox.new)) }
+        ensures cause { HasCause (O.channel_faults outbox.old) (O.channel_faults outbox.new) result }
+        ensures links { O.link_faults outbox.old ≤ O.link_faults outbox.new }
     {
-        self.check_transport(router, id, content)?;
-        let reply = accepted(self.alloc, request, None)?;
-        self.routers.add_transport(router, id)?;
-        Ok(reply)
-    }
-
-    fn produce(
-        &mut self,
-        request: u32,
-        router: Id,
-        transport: Id,
-        id: Id,
-        content: Option<&Value>,
-    ) -> Result<Bytes, Fault>
-        ensures { Carries result self.old self.new request (made_producer self.old (option_map (λ v. view v.now) content.entry) router transport id) }
-    {
-        let content = self.producer_to_be(router, transport, id, content)?;
-        let data = produced(self.alloc)?;
-        let reply = accepted(self.alloc, request, Some(data))?;
-        self.directs.reserve()?;
-        self.routers.add_producer(router, transport, id, content)?;
-        self.directs.add(router, id);
-        Ok(reply)
-    }
-
-    fn consume(
-        &mut self,
-        request: u32,
-        router: Id,
-        transport: Id,
-        producer: Id,
-        id: Id,
-        content: Option<&Value>,
-    ) -> Result<Bytes, Fault>
-        ensures { Carries result self.old self.new request (made_consumer self.old (option_map (λ v. view v.now) content.entry) router transport producer id) }
-    {
-        let found = self.consumer_to_be(router, transport, producer, id, content)?;
-        let (producer_paused, content) = found;
-        let data = consumed(self.alloc, content.is_paused(), producer_paused)?;
-        let reply = accepted(self.alloc, request, Some(data))?;
-        self.routers
-            .add_consumer(router, transport, id, producer, content)?;
-        Ok(reply)
-    }
-
-    // Why a direct transport isn't made.
-    #[tactic(auto, unfolding(crate::specs::Requests::made_transport))]
-    fn check_transport(&self, router: Id, id: Id, content: Option<&Value>) -> Result<(), Fault>
-        ensures { Decides (λ _. IsTransportToBe self.now (option_map (λ v. view v.now) content.entry) router id) result (made_transport self.now (option_map (λ v. view v.now) content.entry) router id) }
-    {
-        let Some(found) = self.routers.get(router) else {
-            return Err(Fault::Refused(Refusal::Missing));
-        };
-        if found.has(Kind::Direct, id) {
-            return Err(Fault::Refused(Refusal::Exists));
-        }
-        if !is_direct(content) {
-            return Err(Fault::Refused(Refusal::Data));
-        }
-        Ok(())
-    }
-
-    // What a Producer is to be made of, where nothing but its SSRCs may be in the way.
-    #[tactic(auto, unfolding(crate::specs::Requests::made_producer))]
-    fn producer_to_be(
-        &self,
-        router: Id,
-        transport: Id,
-        id: Id,
-        content: Option<&Value>,
-    ) -> Result<ProduceContent, Fault>
-        ensures decides { Decides (IsProducerToBe self.now (option_map (λ v. view v.now) content.entry) router transport id) result (made_producer self.now (option_map (λ v. view v.now) content.entry) router transport id) }
-        ensures fits { IfOk result (λ c. Each (λ pair. pair.1 ≤ 127) c.mapping.codecs) }
-    {
-        let found = self.router_with_transport(router, transport)?;
-        if found.has(Kind::Producer, id) {
-            return Err(Fault::Refused(Refusal::Exists));
-        }
-        let Some(content) = produce_content(self.alloc, content)? else {
-            return Err(Fault::Refused(Refusal::Data));
-        };
-        Ok(content)
-    }
-
-    // Whether the Producer is paused, and what a Consumer of it is to be made of.
-    #[tactic(auto, unfolding(crate::specs::Requests::made_consumer))]
-    fn consumer_to_be(
-        &self,
-        router: Id,
-        transport: Id,
-        producer: Id,
-        id: Id,
-        content: Option<&Value>,
-    ) -> Result<(bool, ConsumeContent), Fault>
-        ensures { Decides (IsConsumerToBe self.now (option_map (λ v. view v.now) content.entry) router transport producer id) result (made_consumer self.now (option_map (λ v. view v.now) content.entry) router transport producer id) }
-    {
-        let found = self.router_with_transport(router, transport)?;
-        let Some(source) = found.producer(producer) else {
-            return Err(Fault::Refused(Refusal::Missing));
-        };
-        if found.has(Kind::Consumer, id) {
-            return Err(Fault::Refused(Refusal::Exists));
-        }
-        let Some(content) = consume_content(self.alloc, content)? else {
-            return Err(Fault::Refused(Refusal::Data));
-        };
-        Ok((source.paused(), content))
-    }
-
-    // The Router of this id, where it has the transport.
-    fn router_with_transport(&self, router: Id, transport: Id) -> Result<&Router, Refusal>
-        ensures ok { IfOk result (λ r. router_with_transport self.now router transport ≡ Some r.now) }
-        ensures missing { IfErr result (λ f. (f ≡ Refusal.Missing) × (router_with_transport self.now router transport ≡ None)) }
-    {
-        match self.routers.get(router) {
-            Some(found) if found.has(Kind::Direct, transport) => Ok(found),
-            _ => Err(Refusal::Missing),
+        match incoming {
+            Some(incoming) => forward(&mut self.worker, incoming, &mut self.buffer, outbox),
+            None => Ok(()),
         }
     }
 }

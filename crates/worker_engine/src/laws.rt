@@ -1,66 +1,42 @@
-//! What holds of every list of events.
+//! What holds of any list of events. The functions do nothing: their contracts are the laws.
 
-ghost use Rattle.worker_engine.specs.Laws.{NumberingIsOfTheStretches, SaidIsTheOutput, EmitsAreNumberedByStretches, ReceivedIsAPacket, EmittedIsTheReceived, EmittedElements, EmittedIsNoLonger, EmitsExactlyWhatItPasses, EmitsOnlyWhatIsReceived};
-ghost use Rattle.worker_engine.specs.Lower.{LowerLaws};
+ghost use Rattle.worker_engine.specs.Laws.{AfterGoesOn, ConsumersEmitTheirStretches, EmitsAreOfTheCalls, FlagsAreTheObjects, NewConsumersBegin, OutGoesOn, OutIsTheEmissions, StreamsAreOfTheCalls};
 
-use rtp_extension::{
-    rewritten_elements, rewritten_is_a_packet as renamed_is_a_packet, rewritten_is_no_longer,
-};
-use rtp_packet::{fields_by_places, grammar, rewritten_is_a_packet};
-use rtp_params::what_is_read_fits;
-use seq_manager::{answers_are_the_numbers_of_the_stretches, calls_go_on_from_the_state};
-
-/// How a Consumer's packets have been numbered is what its stretches, taken whole, leave.
-pub fn numbering_is_of_the_stretches()
-    ensures { NumberingIsOfTheStretches }
-{
-    lower_laws();
-}
-
-/// What is given out event by event, from the state that is kept, is the output of the whole list.
-pub fn said_is_the_output()
-    ensures { SaidIsTheOutput }
-{
-    lower_laws();
-}
-
-/// The sequence numbers of what a Consumer emits are the output numbers of its stretches.
-pub fn emits_are_numbered_by_stretches()
-    ensures { EmitsAreNumberedByStretches }
-{
-    lower_laws();
-}
-
-/// An emitted packet is a packet, no longer than the received one: that one with its number, the Consumer's
-/// SSRC, the mapped payload type, and of its elements those whose mapped ids the Consumer's parameters have,
-/// under these.
-pub fn emitted_is_the_received()
-    ensures received { ReceivedIsAPacket }
-    ensures packet { EmittedIsTheReceived }
-    ensures elements { EmittedElements }
-    ensures no_longer { EmittedIsNoLonger }
-{
-    lower_laws();
-}
-
-/// A Consumer emits exactly where it is active, its parameters have the mapped payload type of what its
-/// Producer receives, and one of its encodings has the mapped SSRC.
-pub fn emits_exactly_what_it_passes()
-    ensures passes { EmitsExactlyWhatItPasses }
-    ensures receives { EmitsOnlyWhatIsReceived }
+/// A run goes on from the state that the events before it left.
+pub fn a_run_goes_on()
+    ensures outs { OutGoesOn }
+    ensures state { AfterGoesOn }
 {}
 
-// What the crates below promise.
-fn lower_laws()
-    ensures { LowerLaws }
+/// What a Consumer emits over events through which it stays is what its streams send by the calls that the events are to
+/// it: its flags are set as its transport and its Producer have them, and it is offered what its Producer receives.
+/// Behind the events its streams are those behind these calls.
+pub fn emits_are_of_the_calls()
+    ensures emits { EmitsAreOfTheCalls }
+    ensures streams { StreamsAreOfTheCalls }
+{}
+
+/// By an event there goes out what is told of it, and then what each Consumer of the Producer that receives a packet
+/// emits, in order of making.
+pub fn out_is_the_emissions()
+    ensures { OutIsTheEmissions }
+{}
+
+/// A Consumer is made by a request for it alone, and begins with the request's parameters: its streams have emitted nothing.
+pub fn new_consumers_begin()
+    ensures { NewConsumersBegin }
+{}
+
+/// Behind any events a Consumer's flags are those of its transport and of its Producer: connected where the transport is,
+/// and its Producer's pause where the Producer is paused.
+pub fn flags_are_the_objects()
+    ensures { FlagsAreTheObjects }
+{}
+
+/// From the event that made it on, a Consumer emits what is defined over the whole list of its calls: the packets of its
+/// stretches, of which one begins wherever it becomes active, rewritten and numbered over all of them.
+pub fn consumers_emit_their_stretches()
+    ensures { ConsumersEmitTheirStretches }
 {
-    what_is_read_fits();
-    grammar();
-    fields_by_places();
-    rewritten_is_a_packet();
-    renamed_is_a_packet();
-    rewritten_elements();
-    rewritten_is_no_longer();
-    answers_are_the_numbers_of_the_stretches();
-    calls_go_on_from_the_state();
+    pipe_consumer::emissions_are_of_the_whole_list();
 }

@@ -1,79 +1,109 @@
 -- How the payloads of a stream are served, one after another.
-use Rattle.std.proofs.Common.{◌≡◌, ◌≤◌, ℕ, ◌+◌, List, [], ◌∷◌, ◌++◌, length, map, flat_map, Option, false, refl, sym, ap, subst, ◌∙◌, arith, zero-add}
+use Rattle.std.proofs.Common.{◌≡◌, ◌≤◌, ℕ, ◌+◌, List, [], ◌∷◌, ◌++◌, length, map, flat_map, Option, Some, None, Ok, Err, false, refl, sym, ap, subst, ◌∙◌, append_assoc, arith, zero-add}
+use Rattle.std.proofs.lemmas.List.{append-nil}
 use Rattle.channel_frames.specs.Frames.{frame, frames, is_broken, break_place, begins_too_long, told_length}
 use Rattle.channel_frames.specs.Reading.{Reading, drained, max_place, told_place, unstarted, with_piece}
 use Rattle.ms_devices.specs.Told.{Tells}
 use Rattle.ms_devices.specs.declared.events.OutCall.{OutCall}
-use Rattle.worker_engine.specs.Objects.{Worker}
-use Rattle.worker_engine.specs.Run.{payload, Outgoing, said, said_from, after, after_all, after_heard, heard_in}
+use Rattle.worker_calls.specs.State.{Worker}
+use Rattle.worker_engine.specs.Run.{Event, payload}
 use Rattle.worker_serve.specs.Hearing.{IsBreakAt, IsReadTo, IsTrueOf, IsTrueOfDrained}
-use Rattle.worker_serve.specs.Sending.{AddsBy, IsFront, IsNoBreak, SentTo, calls_as_heard, calls_from}
-use Rattle.worker_serve.specs.Serving.{call_of}
+use Rattle.worker_serve.specs.Sending.{AddsBy, IsNoBreak, ServedBy, ServedTo, Serves}
+use Rattle.worker_serve.specs.Serving.{is_waiting}
 use Rattle.worker_serve.specs.declared.fault.ServeFault.{ServeFault}
 use Rattle.worker_serve.specs.declared.fault.ServeFault.TheVariants as fault
-use Rattle.worker_serve.proofs.SendingLemmas.{Before, adds_so, sent_all, sent_cut, sent_more}
+use Rattle.worker_serve.proofs.EventLemmas.{all_heard, none_heard, served_before, served_then, serves_nothing, serves_then}
+use Rattle.worker_serve.proofs.SendingLemmas.{adds_so, adds_then}
 
--- ---- what is said at events, part by part
+-- ---- payload by payload
 
-pub call_of-append : (xs ys : List Outgoing) → map call_of (xs ++ ys) ≡ map call_of xs ++ map call_of ys
-call_of-append [] ys = refl
-call_of-append (x ∷ xs) ys = ap (λ (zs : List OutCall). call_of x ∷ zs) (call_of-append xs ys)
+-- so much of all is served, and this is left
+pub record Part (w : Worker) (all : List Event) (v : Worker) (left : List Event) (calls : List OutCall) : Type 0 where
+  pub done : List Event
+  pub all_is : all ≡ done ++ left
+  pub served : Serves w done v calls
 
-calls-step :
-    (w : Worker) (p : List ℕ) (ps : List (List ℕ))
-    → calls_from w (map payload (p ∷ ps)) ≡ calls_as_heard w (heard_in p) ++ calls_from (after_heard w (heard_in p)) (map payload ps)
-calls-step w p ps = call_of-append (said w (payload p)) (said_from (after w (payload p)) (map payload ps))
+-- where the worker waited for nothing
+abbrev pub PartBy : Worker → List Event → Worker → List Event → List OutCall → Type 0
+PartBy w all v left calls = is_waiting w ≡ false → Part w all v left calls
 
-calls-next :
-    (w v : Worker) (all left : List (List ℕ)) (p : List ℕ) → all ≡ p ∷ left → v ≡ after_heard w (heard_in p)
-    → calls_from w (map payload all) ≡ calls_as_heard w (heard_in p) ++ calls_from v (map payload left)
-calls-next w v all left p is next =
-    ap (λ (ps : List (List ℕ)). calls_from w (map payload ps)) is
-    ∙ (calls-step w p left ∙ ap (λ (u : Worker). calls_as_heard w (heard_in p) ++ calls_from u (map payload left)) (sym next))
+pub no_part : (w : Worker) (all : List Event) (told : Option (List OutCall)) → Tells (AddsBy (PartBy w all w all)) told told
+no_part w all None = tt
+no_part w all (Some had) = ([], sym (append-nil had), λ free. record { done = []; all_is = refl; served = serves_nothing w free })
 
-pub state_next :
-    (w v : Worker) (all left : List (List ℕ)) (p : List ℕ) → all ≡ p ∷ left → v ≡ after_heard w (heard_in p)
-    → after_all v (map payload left) ≡ after_all w (map payload all)
-state_next w v all left p is next =
-    ap (λ (u : Worker). after_all u (map payload left)) next ∙ ap (λ (ps : List (List ℕ)). after_all w (map payload ps)) (sym is)
+part-more : (w v u : Worker) (all first rest : List Event) (a b : List OutCall) → Part w all v (first ++ rest) a → Serves v first u b → Part w all u rest (a ++ b)
+part-more w v u all first rest a b p q =
+    record {
+      done = p.done ++ first;
+      all_is = p.all_is ∙ sym (append_assoc p.done first rest);
+      served = serves_then w v u p.done first a b p.served q;
+    }
 
-pub served_more :
-    (whole : List OutCall) (w v : Worker) (all left : List (List ℕ)) (p : List ℕ) (before middle now : Option (List OutCall))
-    → all ≡ p ∷ left → v ≡ after_heard w (heard_in p) → Tells (AddsBy (Before whole (calls_from w (map payload all)))) before middle
-    → Tells (AddsBy (λ calls. calls ≡ calls_as_heard w (heard_in p))) middle now → Tells (AddsBy (Before whole (calls_from v (map payload left)))) before now
-served_more whole w v all left p before middle now is next sent more =
-    sent_more whole (calls_as_heard w (heard_in p)) (calls_from v (map payload left)) before middle now
-    (subst (λ (cs : List OutCall). Tells (AddsBy (Before whole cs)) before middle) (calls-next w v all left p is next) sent) more
+part-cut : (f : ServeFault) → IsNoBreak f → (w v : Worker) (all first rest : List Event) (a b : List OutCall) → Part w all v (first ++ rest) a → ServedTo f v first b → ServedTo f w all (a ++ b)
+part-cut f none w v all first rest a b p q =
+    subst (λ (x : List Event). ServedTo f w x (a ++ b)) (append_assoc p.done first rest ∙ sym p.all_is)
+    (served_before f none w (p.done ++ first) rest (a ++ b) (served_then f w v p.done first a b p.served q))
 
-pub served_cut :
-    (f : ServeFault) (whole : List OutCall) (w : Worker) (all left : List (List ℕ)) (p : List ℕ) (before middle now : Option (List OutCall))
-    → IsNoBreak f → all ≡ p ∷ left → Tells (AddsBy (Before whole (calls_from w (map payload all)))) before middle
-    → Tells (AddsBy (SentTo f (calls_as_heard w (heard_in p)))) middle now → Tells (AddsBy (SentTo f whole)) before now
-served_cut f whole w all left p before middle now none is sent more =
-    sent_cut f whole (calls_as_heard w (heard_in p)) (calls_from (after_heard w (heard_in p)) (map payload left)) before middle now none
-    (subst (λ (cs : List OutCall). Tells (AddsBy (Before whole cs)) before middle) (calls-next w (after_heard w (heard_in p)) all left p is refl) sent) more
+pub part_more :
+    (w v u : Worker) (all : List Event) (left rest : List (List ℕ)) (p : List ℕ) (before middle now : Option (List OutCall)) → left ≡ p ∷ rest
+    → Tells (AddsBy (PartBy w all v (map payload left))) before middle → Tells (AddsBy (ServedBy (Ok (tt {0})) v (payload p ∷ []) u)) middle now
+    → Tells (AddsBy (PartBy w all u (map payload rest))) before now
+part_more w v u all left rest p before middle now is sent more =
+    adds_then (PartBy w all v (map payload left)) (ServedBy (Ok (tt {0})) v (payload p ∷ []) u) (PartBy w all u (map payload rest))
+    (λ a b x y free.
+    let part = subst (λ (ps : List (List ℕ)). Part w all v (map payload ps) a) is (x free) in
+    part-more w v u all (payload p ∷ []) (map payload rest) a b part (y part.served.answered)) before middle now sent more
+
+pub part_cut :
+    (f : ServeFault) (w v u : Worker) (all : List Event) (left rest : List (List ℕ)) (p : List ℕ) (before middle now : Option (List OutCall)) → IsNoBreak f → left ≡ p ∷ rest
+    → Tells (AddsBy (PartBy w all v (map payload left))) before middle → Tells (AddsBy (ServedBy {T = Unit {0}} (Err f) v (payload p ∷ []) u)) middle now
+    → Tells (AddsBy (λ calls. is_waiting w ≡ false → ServedTo f w all calls)) before now
+part_cut f w v u all left rest p before middle now none is sent more =
+    adds_then (PartBy w all v (map payload left)) (ServedBy {T = Unit {0}} (Err f) v (payload p ∷ []) u) (λ calls. is_waiting w ≡ false → ServedTo f w all calls)
+    (λ a b x y free.
+    let part = subst (λ (ps : List (List ℕ)). Part w all v (map payload ps) a) is (x free) in
+    part-cut f none w v all (payload p ∷ []) (map payload rest) a b part (y part.served.answered)) before middle now sent more
 
 -- ---- where no payload is left
 
--- all is sent
-pub served_all :
-    (whole : List OutCall) (w : Worker) (left : List (List ℕ)) (before now : Option (List OutCall)) → left ≡ []
-    → Tells (AddsBy (Before whole (calls_from w (map payload left)))) before now → Tells (AddsBy (λ calls. calls ≡ whole)) before now
-served_all whole w left before now none sent =
-    sent_all whole before now (subst (λ (ps : List (List ℕ)). Tells (AddsBy (Before whole (calls_from w (map payload ps)))) before now) none sent)
+part-all : (w v : Worker) (all : List Event) (left : List (List ℕ)) (a : List OutCall) → left ≡ [] → Part w all v (map payload left) a → Serves w all v a
+part-all w v all left a none p =
+    subst (λ (x : List Event). Serves w x v a)
+    (sym (append-nil p.done) ∙ (ap (λ (ps : List (List ℕ)). p.done ++ map payload ps) (sym none) ∙ sym p.all_is)) p.served
 
-pub state_last : (w v : Worker) (left : List (List ℕ)) → left ≡ [] → after_all w (map payload left) ≡ v → w ≡ v
-state_last w v left none is = ap (λ (ps : List (List ℕ)). after_all w (map payload ps)) (sym none) ∙ is
+-- all is served
+pub part_all :
+    (w v : Worker) (all : List Event) (left : List (List ℕ)) (before now : Option (List OutCall)) → left ≡ []
+    → Tells (AddsBy (PartBy w all v (map payload left))) before now → Tells (AddsBy (ServedBy (Ok (tt {0})) w all v)) before now
+part_all w v all left before now none sent =
+    adds_so (PartBy w all v (map payload left)) (ServedBy (Ok (tt {0})) w all v) (λ a p free. part-all w v all left a none (p free)) before now sent
+
+part-short : (w v : Worker) (all left : List Event) (a : List OutCall) → Part w all v left a → ServedTo fault.NoMemory w all a
+part-short w v all left a p =
+    subst (λ (x : List Event). ServedTo fault.NoMemory w x a) (sym p.all_is) (served_before fault.NoMemory tt w p.done left a (all_heard w v p.done a p.served))
 
 -- no further payload can be had: a break comes behind the last, and memory may run out before that
-pub served_till :
-    (f : ServeFault) (whole : List OutCall) (w : Worker) (r : Reading) (before now : Option (List OutCall))
+pub part_till :
+    (f : ServeFault) (w v : Worker) (all : List Event) (r : Reading) (before now : Option (List OutCall))
     → (f ≡ fault.Write → ⊥) → ((place told : ℕ) → f ≡ fault.TooLong place told → IsBreakAt r place told)
-    → Tells (AddsBy (Before whole (calls_from w (map payload (frames r.unread))))) before now → Tells (AddsBy (SentTo f whole)) before now
-served_till fault.Write whole w r before now no_write break sent = absurd (no_write refl)
-served_till (fault.TooLong place told) whole w r before now no_write break sent = served_all whole w (frames r.unread) before now (break place told refl).none_left sent
-served_till fault.NoMemory whole w r before now no_write break sent =
-    adds_so (Before whole (calls_from w (map payload (frames r.unread)))) (IsFront whole) (λ a u. (calls_from w (map payload (frames r.unread)), u)) before now sent
+    → Tells (AddsBy (PartBy w all v (map payload (frames r.unread)))) before now → Tells (AddsBy (λ calls. is_waiting w ≡ false → ServedTo f w all calls)) before now
+part_till fault.Write w v all r before now no_write break sent = absurd (no_write refl)
+part_till (fault.TooLong place told) w v all r before now no_write break sent =
+    adds_so (PartBy w all v (map payload (frames r.unread))) (λ calls. is_waiting w ≡ false → ServedTo (fault.TooLong place told) w all calls)
+    (λ a p free. (v, part-all w v all (frames r.unread) a (break place told refl).none_left (p free))) before now sent
+part_till fault.NoMemory w v all r before now no_write break sent =
+    adds_so (PartBy w all v (map payload (frames r.unread))) (λ calls. is_waiting w ≡ false → ServedTo fault.NoMemory w all calls)
+    (λ a p free. part-short w v all (map payload (frames r.unread)) a (p free)) before now sent
+
+-- nothing is served, for want of memory
+pub none_served : (w v : Worker) (all : List Event) (told : Option (List OutCall)) → Tells (AddsBy (ServedBy {T = Unit {0}} (Err fault.NoMemory) w all v)) told told
+none_served w v all None = tt
+none_served w v all (Some had) = ([], sym (append-nil had), λ free. none_heard w all)
+
+-- nothing was to be served
+pub nothing_served : (w : Worker) (told : Option (List OutCall)) → Tells (AddsBy (ServedBy (Ok (tt {0})) w [] w)) told told
+nothing_served w None = tt
+nothing_served w (Some had) = ([], sym (append-nil had), λ free. serves_nothing w free)
 
 -- ---- the break
 

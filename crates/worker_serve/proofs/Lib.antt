@@ -1,4 +1,6 @@
+pub mod BindLemmas
+pub mod EventLemmas
 pub mod HearingLemmas
-pub mod SayLemmas
+pub mod PayloadLemmas
 pub mod SendingLemmas
 pub mod ServeLemmas

@@ -1,18 +1,30 @@
 -- How calls that were made join: those of a first part, and then those of what follows.
-use Rattle.std.proofs.Common.{◌≡◌, ◌<◌, ◌≤◌, ◌+◌, ℕ, suc, List, [], ◌∷◌, ◌++◌, length, map, drop, get_or, All, add-one, drop-cons, Option, Some, None, Result, Ok, Err, OnOk, IfErr, is_err, true, false, sym, ap, refl, subst, ◌∙◌, append_assoc}
-use Rattle.std.proofs.lemmas.List.{append-nil}
-use Rattle.std.proofs.lemmas.List.Elements.{All-map}
-use Rattle.channel_frames.specs.Frames.{frame, max_payload}
-use Rattle.ms_devices.specs.Told.{Tells}
+use Rattle.std.proofs.Common.{◌≡◌, ◌<◌, ◌≤◌, ◌+◌, ℕ, suc, List, [], ◌∷◌, ◌++◌, length, map, drop, get_or, All, add-one, drop-cons, Option, Some, None, Result, Ok, Err, OnOk, IfErr, is_err, Bool, true, false, not, is_some, ◌||◌, refl, sym, ap, subst, ◌∙◌, append_assoc, arith}
+use Rattle.std.specs.Prelude.{⊤}
+use Rattle.std.specs.List.{list_any}
+use Rattle.std.specs.Result.{result_ok}
+use Rattle.std.proofs.lemmas.List.{append-nil, map-append}
+use Rattle.std.proofs.lemmas.List.Elements.{All-cons, All-nil}
+use Rattle.std.proofs.lemmas.List.Folds.{list_any-append}
+use Rattle.channel_frames.specs.Frames.{frame}
+use Rattle.ms_devices.specs.Causes.{HasCause}
+use Rattle.ms_devices.specs.Told.{Tells, AddsOne}
 use Rattle.ms_devices.specs.declared.events.OutCall.{OutCall}
 use Rattle.ms_devices.specs.declared.events.OutCall.TheVariants as call
-use Rattle.worker_engine.specs.Forwarding.{Made, calls_of, StopsAtAFault as Stops}
-use Rattle.worker_engine.specs.Run.{say}
-use Rattle.worker_engine.specs.declared.act.Act.TheVariants as act
-use Rattle.worker_serve.specs.Sending.{AddsBy, CountsTo, IsFront, IsNoBreak, IsSayable, SentTo, StopsAtAFault, act_call}
-use Rattle.worker_serve.specs.Serving.{call_of}
+use Rattle.ms_devices.specs.declared.failed.Failed.{Failed}
+use Rattle.rtp_params.specs.Readable.{Each}
+use Rattle.worker_requests.specs.Said.{max_said}
+use Rattle.worker_calls.specs.Acts.{outgoing, IsShort}
+use Rattle.worker_calls.specs.Requests.{Outgoing, say, bind, shut, send}
+use Rattle.worker_calls.specs.declared.act.Act.{Act}
+use Rattle.worker_calls.specs.declared.act.Act.TheVariants as act
+use Rattle.worker_engine.specs.Outside.{Adds, Made, StopsAtAFault as Stops, call_of, is_failed_datagram, unanswered}
+use Rattle.worker_serve.specs.Sending.{AddsBy, CountsTo, Goes, IsNoBreak, IsSayable, act_call}
+use Rattle.worker_serve.specs.Serving.{IsOfLinks, answers_in, is_failed_on_a_link}
 use Rattle.worker_serve.specs.declared.fault.ServeFault.{ServeFault}
 use Rattle.worker_serve.specs.declared.fault.ServeFault.TheVariants as fault
+use Rattle.worker_serve.proofs.BindLemmas.{AreNoBinds}
+use Rattle.worker_serve.proofs.EventLemmas.{answers_in-append, sent_as, sent_before, sent_behind}
 
 -- ---- what is told, one behind the other
 
@@ -42,70 +54,62 @@ adds_then P Q R join x y z p q =
 pub adds_so : (P Q : List OutCall → Type 0) → ((a : List OutCall) → P a → Q a) → (x y : Option (List OutCall)) → Tells (AddsBy P) x y → Tells (AddsBy Q) x y
 adds_so P Q so x y p = tells_so (AddsBy P) (AddsBy Q) (λ a b u. (u.0, u.1, so u.0 u.2)) x y p
 
--- ---- the calls so far, in front of those that are still to be made
-
-abbrev pub Before : List OutCall → List OutCall → List OutCall → Type 0
-Before whole rest calls = whole ≡ calls ++ rest
-
-pub nothing_sent : (whole : List OutCall) (told : Option (List OutCall)) → Tells (AddsBy (Before whole whole)) told told
-nothing_sent whole None = tt
-nothing_sent whole (Some had) = ([], sym (append-nil had), refl)
-
 pub none_sent : (told : Option (List OutCall)) → Tells (AddsBy (λ calls. calls ≡ [])) told told
 none_sent None = tt
 none_sent (Some had) = ([], sym (append-nil had), refl)
 
-before-more : (whole first rest calls added : List OutCall) → Before whole (first ++ rest) calls → added ≡ first → Before whole rest (calls ++ added)
-before-more whole first rest calls added before is = before ∙ (ap (λ (x : List OutCall). calls ++ (x ++ rest)) (sym is) ∙ sym (append_assoc calls added rest))
+-- ---- the calls so far, in front of those that are still to be made
 
-pub stops-later : (whole first rest calls added : List OutCall) → Before whole (first ++ rest) calls → StopsAtAFault first added → StopsAtAFault whole (calls ++ added)
-stops-later whole first rest calls added before stop =
-    let here : OutCall = call.Channel stop.bytes false in
+pub record Left (whole rest calls : List OutCall) : Type 0 where
+  pub whole_is : whole ≡ map unanswered calls ++ rest
+  pub no_answers : answers_in calls ≡ []
+
+pub nothing_sent : (whole : List OutCall) (told : Option (List OutCall)) → Tells (AddsBy (Left whole whole)) told told
+nothing_sent whole None = tt
+nothing_sent whole (Some had) = ([], sym (append-nil had), record { whole_is = refl; no_answers = refl })
+
+no-answers-then : (a b : List OutCall) → answers_in a ≡ [] → answers_in b ≡ [] → answers_in (a ++ b) ≡ []
+no-answers-then a b p q = answers_in-append a b ∙ (ap (λ (x : List (Option ℕ)). x ++ answers_in b) p ∙ q)
+
+left-more : (whole first rest a b : List OutCall) → Left whole (first ++ rest) a → map unanswered b ≡ first → answers_in b ≡ [] → Left whole rest (a ++ b)
+left-more whole first rest a b p is none =
     record {
-      made = calls ++ stop.made;
-      bytes = stop.bytes;
-      later = stop.later ++ rest;
       whole_is =
-          before
-          ∙ (ap (λ (x : List OutCall). calls ++ (x ++ rest)) stop.whole_is
-          ∙ (ap (λ (x : List OutCall). calls ++ x) (append_assoc stop.made (here ∷ stop.later) rest)
-          ∙ sym (append_assoc calls stop.made (here ∷ (stop.later ++ rest)))));
-      calls_are = ap (λ (x : List OutCall). calls ++ x) stop.calls_are ∙ sym (append_assoc calls stop.made (call.Channel stop.bytes true ∷ []));
+          p.whole_is
+          ∙ (ap (λ (x : List OutCall). map unanswered a ++ (x ++ rest)) (sym is)
+          ∙ (sym (append_assoc (map unanswered a) (map unanswered b) rest) ∙ ap (λ (x : List OutCall). x ++ rest) (sym (map-append unanswered a b))));
+      no_answers = no-answers-then a b p.no_answers none;
     }
 
-pub front-later : (whole first rest calls added : List OutCall) → Before whole (first ++ rest) calls → IsFront first added → IsFront whole (calls ++ added)
-front-later whole first rest calls added before front = (
-  front.0 ++ rest,
-  before
-      ∙ (ap (λ (x : List OutCall). calls ++ (x ++ rest)) front.1
-      ∙ (ap (λ (x : List OutCall). calls ++ x) (append_assoc added front.0 rest)
-      ∙ sym (append_assoc calls added (front.0 ++ rest)))),
-)
-
-sent-later :
-    (f : ServeFault) (whole first rest calls added : List OutCall) → IsNoBreak f → Before whole (first ++ rest) calls
-    → SentTo f first added → SentTo f whole (calls ++ added)
-sent-later fault.Write whole first rest calls added none before sent = stops-later whole first rest calls added before sent
-sent-later (fault.TooLong place told) whole first rest calls added none before sent = absurd none
-sent-later fault.NoMemory whole first rest calls added none before sent = front-later whole first rest calls added before sent
+left-cut :
+    (f : ServeFault) (whole first rest a b : List OutCall) → IsNoBreak f → Left whole (first ++ rest) a
+    → Goes {T = Unit} (Err f) first b → Goes {T = Unit} (Err f) whole (a ++ b)
+left-cut f whole first rest a b none p q =
+    record {
+      sent =
+          sent_as f (map unanswered a ++ (first ++ rest)) whole (map unanswered a ++ map unanswered b) (map unanswered (a ++ b)) (sym p.whole_is) (sym (map-append unanswered a b))
+          (sent_behind f (map unanswered a) (first ++ rest) (map unanswered b) (sent_before f none first rest (map unanswered b) q.sent));
+      no_answers = no-answers-then a b p.no_answers q.no_answers;
+    }
 
 -- a part more
 pub sent_more :
-    (whole first rest : List OutCall) (before middle now : Option (List OutCall))
-    → Tells (AddsBy (Before whole (first ++ rest))) before middle → Tells (AddsBy (λ calls. calls ≡ first)) middle now → Tells (AddsBy (Before whole rest)) before now
-sent_more whole first rest before middle now p q =
-    adds_then (Before whole (first ++ rest)) (λ calls. calls ≡ first) (Before whole rest) (before-more whole first rest) before middle now p q
+    (x : Unit {0}) (whole first rest : List OutCall) (before middle now : Option (List OutCall))
+    → Tells (AddsBy (Left whole (first ++ rest))) before middle → Tells (AddsBy (Goes (Ok x) first)) middle now → Tells (AddsBy (Left whole rest)) before now
+sent_more x whole first rest before middle now p q =
+    adds_then (Left whole (first ++ rest)) (Goes (Ok x) first) (Left whole rest) (λ a b u v. left-more whole first rest a b u v.sent v.no_answers) before middle now p q
 
 -- what was cut off in a part was cut off in the whole
 pub sent_cut :
     (f : ServeFault) (whole first rest : List OutCall) (before middle now : Option (List OutCall)) → IsNoBreak f
-    → Tells (AddsBy (Before whole (first ++ rest))) before middle → Tells (AddsBy (SentTo f first)) middle now → Tells (AddsBy (SentTo f whole)) before now
+    → Tells (AddsBy (Left whole (first ++ rest))) before middle → Tells (AddsBy (Goes {T = Unit} (Err f) first)) middle now → Tells (AddsBy (Goes {T = Unit} (Err f) whole)) before now
 sent_cut f whole first rest before middle now none p q =
-    adds_then (Before whole (first ++ rest)) (SentTo f first) (SentTo f whole) (λ a b u v. sent-later f whole first rest a b none u v) before middle now p q
+    adds_then (Left whole (first ++ rest)) (Goes {T = Unit} (Err f) first) (Goes {T = Unit} (Err f) whole) (λ a b u v. left-cut f whole first rest a b none u v) before middle now p q
 
 -- all is sent
-pub sent_all : (whole : List OutCall) (before now : Option (List OutCall)) → Tells (AddsBy (Before whole [])) before now → Tells (AddsBy (λ calls. calls ≡ whole)) before now
-sent_all whole before now p = adds_so (Before whole []) (λ calls. calls ≡ whole) (λ a u. sym (u ∙ append-nil a)) before now p
+pub sent_all : (x : Unit {0}) (whole : List OutCall) (before now : Option (List OutCall)) → Tells (AddsBy (Left whole [])) before now → Tells (AddsBy (Goes (Ok x) whole)) before now
+sent_all x whole before now p =
+    adds_so (Left whole []) (Goes (Ok x) whole) (λ a u. record { sent = sym (u.whole_is ∙ append-nil (map unanswered a)); no_answers = u.no_answers }) before now p
 
 -- ---- counts of faults
 
@@ -117,41 +121,161 @@ counts_behind f before middle now is c = subst (λ n. CountsTo f n now) is c
 pub drop_step : {A : Type 0} (xs : List A) (i : ℕ) (x : A) → i < length xs → x ≡ get_or xs i x → drop i xs ≡ x ∷ drop (i + 1) xs
 drop_step xs i x lt is = drop-cons xs i x lt ∙ ap (λ y. y ∷ drop (suc i) xs) (sym is) ∙ ap (λ n. x ∷ drop n xs) (sym (add-one i))
 
--- ---- what an engine says, as calls
+-- ---- what an engine sends itself
 
-pub said_calls : (payloads : List (List ℕ)) → map call_of (map say payloads) ≡ calls_of payloads
-said_calls [] = refl
-said_calls (p ∷ ps) = ap (λ (x : List OutCall). call.Channel (frame p) false ∷ x) (said_calls ps)
+abbrev pub IsNoBindCall : OutCall → Type 0
+IsNoBindCall (call.Bind link ip port) = ⊥
+IsNoBindCall (call.Shut link) = ⊤
+IsNoBindCall (call.Channel bytes failed) = ⊤
+IsNoBindCall (call.Datagram link to packet failed) = ⊤
 
-pub acts_are_said : (payloads : List (List ℕ)) → map act_call (map act.Say payloads) ≡ map call_of (map say payloads)
-acts_are_said [] = refl
-acts_are_said (p ∷ ps) = ap (λ (x : List OutCall). call.Channel (frame p) false ∷ x) (acts_are_said ps)
+no-bind-calls : (outs : List Outgoing) → AreNoBinds outs → Each IsNoBindCall (map call_of outs)
+no-bind-calls [] none = tt
+no-bind-calls (say bytes ∷ outs) none = (tt, no-bind-calls outs none.1)
+no-bind-calls (bind link ip ∷ outs) none = absurd none.0
+no-bind-calls (shut link ∷ outs) none = (tt, no-bind-calls outs none.1)
+no-bind-calls (send link to packet ∷ outs) none = (tt, no-bind-calls outs none.1)
 
-calls_of-append : (ps qs : List (List ℕ)) → calls_of (ps ++ qs) ≡ calls_of ps ++ calls_of qs
-calls_of-append [] qs = refl
-calls_of-append (p ∷ ps) qs = ap (λ (x : List OutCall). call.Channel (frame p) false ∷ x) (calls_of-append ps qs)
+no-binds-front : (sent left : List Outgoing) → AreNoBinds (sent ++ left) → AreNoBinds sent
+no-binds-front [] left none = tt
+no-binds-front (x ∷ sent) left none = (none.0, no-binds-front sent left none.1)
 
-pub made_as_heard :
-    (payloads : List (List ℕ)) (before now : Option (List OutCall)) → Made (calls_of payloads) before now
-    → Tells (AddsBy (λ calls. calls ≡ map call_of (map say payloads))) before now
-made_as_heard payloads before now made =
-    tells_so (λ old new. new ≡ old ++ calls_of payloads) (AddsBy (λ calls. calls ≡ map call_of (map say payloads)))
-    (λ old new e. (calls_of payloads, e, sym (said_calls payloads))) before now made
+each-append : (xs ys : List OutCall) → Each IsNoBindCall xs → Each IsNoBindCall ys → Each IsNoBindCall (xs ++ ys)
+each-append [] ys a b = b
+each-append (x ∷ xs) ys a b = (a.0, each-append xs ys a.1 b)
 
-pub stopped_as_heard :
-    (payloads : List (List ℕ)) (before now : Option (List OutCall)) → Stops payloads before now
-    → Tells (AddsBy (SentTo fault.Write (map call_of (map say payloads)))) before now
-stopped_as_heard payloads before now stop =
-    let sent = calls_of stop.sent in
-    let whole : map call_of (map say payloads) ≡ sent ++ call.Channel (frame stop.failed) false ∷ calls_of stop.later =
-    said_calls payloads ∙ (ap calls_of stop.payloads_are ∙ calls_of-append stop.sent (stop.failed ∷ stop.later)) in
-    let last = sent ++ call.Channel (frame stop.failed) true ∷ [] in
-    tells_so (λ old new. new ≡ old ++ last) (AddsBy (SentTo fault.Write (map call_of (map say payloads))))
-    (λ old new e. (last, e, record { made = sent; bytes = frame stop.failed; later = calls_of stop.later; whole_is = whole; calls_are = refl }))
-    before now stop.calls
+no-answers : (calls : List OutCall) → Each IsNoBindCall (map unanswered calls) → answers_in calls ≡ []
+no-answers [] none = refl
+no-answers (call.Bind link ip port ∷ calls) none = absurd none.0
+no-answers (call.Shut link ∷ calls) none = no-answers calls none.1
+no-answers (call.Channel bytes failed ∷ calls) none = no-answers calls none.1
+no-answers (call.Datagram link to packet failed ∷ calls) none = no-answers calls none.1
 
-pub acts_sayable : (payloads : List (List ℕ)) → All (λ p. length p ≤ max_payload) payloads → All IsSayable (map act.Say payloads)
-acts_sayable payloads all = All-map IsSayable act.Say payloads all
+pub made_goes :
+    (x : Unit {0}) (outs : List Outgoing) (links later : ℕ) (before now : Option (List OutCall)) → AreNoBinds outs → Made (map call_of outs) links later before now
+    → Tells (AddsBy (Goes (Ok x) (map call_of outs))) before now
+made_goes x outs links later before now none made =
+    tells_so (Adds (map call_of outs) links later) (AddsBy (Goes (Ok x) (map call_of outs)))
+    (λ old new a. (a.calls, a.whole, record { sent = a.same; no_answers = no-answers a.calls (subst (Each IsNoBindCall) (sym a.same) (no-bind-calls outs none)) })) before now made
+
+stopped-sent :
+    (outs : List Outgoing) (links later : ℕ) (before now : Option (List OutCall)) (s : Stops outs links later before now) → AreNoBinds outs
+    → (calls : List OutCall) → map unanswered calls ≡ map call_of s.sent ++ call.Channel (frame s.failed) true ∷ [] → Goes {T = Unit} (Err fault.Write) (map call_of outs) calls
+stopped-sent outs links later before now s none calls is =
+    record {
+      sent = record {
+        made = map call_of s.sent;
+        bytes = frame s.failed;
+        later = map call_of s.left;
+        whole_is = ap (λ (x : List Outgoing). map call_of x) s.outs_are ∙ map-append call_of s.sent (say s.failed ∷ s.left);
+        calls_are = is;
+      };
+      no_answers =
+          no-answers calls (subst (Each IsNoBindCall) (sym is)
+          (each-append (map call_of s.sent) (call.Channel (frame s.failed) true ∷ [])
+          (no-bind-calls s.sent (no-binds-front s.sent (say s.failed ∷ s.left) (subst AreNoBinds s.outs_are none))) (tt, tt)));
+    }
+
+pub stopped_goes :
+    (outs : List Outgoing) (links later : ℕ) (before now : Option (List OutCall)) → AreNoBinds outs → Stops outs links later before now
+    → Tells (AddsBy (Goes {T = Unit} (Err fault.Write) (map call_of outs))) before now
+stopped_goes outs links later before now none s =
+    tells_so (Adds (map call_of s.sent ++ call.Channel (frame s.failed) true ∷ []) links later) (AddsBy (Goes {T = Unit} (Err fault.Write) (map call_of outs)))
+    (λ old new a. (a.calls, a.whole, stopped-sent outs links later before now s none a.calls a.same)) before now s.made
+
+-- ---- acts
+
+-- acts of which the first asks for no link, and of which one alone would
+pub acts_sayable : (acts : List Act) → AreNoBinds (map outgoing acts) → Each IsShort (map outgoing acts) → All IsSayable acts
+acts_sayable [] none short = All-nil IsSayable
+acts_sayable (act.Say bytes ∷ acts) none short =
+    let said : length bytes ≤ max_said = short.0 in
+    All-cons IsSayable (act.Say bytes) acts (omega (arith, said)) (acts_sayable acts none.1 short.1)
+acts_sayable (act.Bind link ip ∷ acts) none short = absurd none.0
+acts_sayable (act.Shut link ∷ acts) none short = All-cons IsSayable (act.Shut link) acts tt (acts_sayable acts none.1 short.1)
+
+acts-are-out : (acts : List Act) → map act_call acts ≡ map call_of (map outgoing acts)
+acts-are-out [] = refl
+acts-are-out (a ∷ acts) = ap (λ (x : List OutCall). act_call a ∷ x) (acts-are-out acts)
+
+-- the acts that an engine gives
+pub acts_as_calls : (acts : List Act) (outs : List Outgoing) → map outgoing acts ≡ outs → map act_call acts ≡ map call_of outs
+acts_as_calls acts outs is = acts-are-out acts ∙ ap (λ (x : List Outgoing). map call_of x) is
+
+-- they were carried out
+pub acts_go :
+    (r : Result (Unit {0}) ServeFault) (acts : List Act) (outs : List Outgoing) (before now : Option (List OutCall)) → map outgoing acts ≡ outs
+    → Tells (AddsBy (Goes r (map act_call acts))) before now → Tells (AddsBy (Goes r (map call_of outs))) before now
+acts_go r acts outs before now is sent = subst (λ (x : List OutCall). Tells (AddsBy (Goes r x)) before now) (acts_as_calls acts outs is) sent
+
+-- ---- the faults of links
+
+either-none : (a b : Bool) → (a || b) ≡ false → (a ≡ false) × (b ≡ false)
+either-none true b is = absurd cc
+either-none false b is = (refl, is)
+
+pub links_then :
+    (a b c : ℕ) (x y z : Option (List OutCall)) → IsOfLinks a b x y → IsOfLinks b c y z → IsOfLinks a c x z
+links_then a b c x y z p q =
+    let one : a ≤ b = p.never_falls in
+    let two : b ≤ c = q.never_falls in
+    record {
+      never_falls = omega arith;
+      still =
+          adds_then (λ cs. list_any is_failed_on_a_link cs ≡ false → b ≡ a) (λ cs. list_any is_failed_on_a_link cs ≡ false → c ≡ b)
+          (λ cs. list_any is_failed_on_a_link cs ≡ false → c ≡ a) (λ cs ds u v none.
+          let parts = either-none (list_any is_failed_on_a_link cs) (list_any is_failed_on_a_link ds) (sym (list_any-append is_failed_on_a_link cs ds) ∙ none) in
+          v parts.1 ∙ u parts.0) x y z p.still q.still;
+    }
+
+-- where the count is what it was
+pub links_same : (P : List OutCall → Type 0) (links later : ℕ) (before now : Option (List OutCall)) → later ≡ links → Tells (AddsBy P) before now → IsOfLinks links later before now
+links_same P links later before now is told =
+    record { never_falls = omega (arith, is); still = adds_so P (λ cs. list_any is_failed_on_a_link cs ≡ false → later ≡ links) (λ a u none. is) before now told }
+
+pub links_at_rest : (links : ℕ) (told : Option (List OutCall)) → IsOfLinks links links told told
+links_at_rest links told = links_same (λ cs. cs ≡ []) links links told told refl (none_sent told)
+
+no-datagram-failed : (calls : List OutCall) → list_any is_failed_on_a_link calls ≡ false → list_any is_failed_datagram calls ≡ false
+no-datagram-failed [] none = refl
+no-datagram-failed (call.Bind link ip port ∷ calls) none = no-datagram-failed calls (either-none (not (is_some port)) (list_any is_failed_on_a_link calls) none).1
+no-datagram-failed (call.Shut link ∷ calls) none = no-datagram-failed calls none
+no-datagram-failed (call.Channel bytes failed ∷ calls) none = no-datagram-failed calls none
+no-datagram-failed (call.Datagram link to packet failed ∷ calls) none =
+    let parts = either-none failed (list_any is_failed_on_a_link calls) none in
+    ap (λ (b : Bool). b || list_any is_failed_datagram calls) parts.0 ∙ no-datagram-failed calls parts.1
+
+pub made_links : (wanted : List OutCall) (links later : ℕ) (before now : Option (List OutCall)) → links ≤ later → Made wanted links later before now → IsOfLinks links later before now
+made_links wanted links later before now grows made =
+    record {
+      never_falls = grows;
+      still =
+          tells_so (Adds wanted links later) (AddsBy (λ cs. list_any is_failed_on_a_link cs ≡ false → later ≡ links))
+          (λ old new a. (a.calls, a.whole, λ none. a.still (no-datagram-failed a.calls none))) before now made;
+    }
+
+pub stopped_links : (outs : List Outgoing) (links later : ℕ) (before now : Option (List OutCall)) → links ≤ later → Stops outs links later before now → IsOfLinks links later before now
+stopped_links outs links later before now grows s =
+    made_links (map call_of s.sent ++ call.Channel (frame s.failed) true ∷ []) links later before now grows s.made
+
+-- a link that is opened, or is not
+pub bind_links :
+    (r : Result ℕ Failed) (link : ℕ) (ip : List ℕ) (links later : ℕ) (before now : Option (List OutCall)) → HasCause links later r
+    → Tells (AddsOne (call.Bind link ip (result_ok r))) before now → IsOfLinks links later before now
+bind_links (Ok port) link ip links later before now cause told =
+    record {
+      never_falls = cause.never_falls;
+      still =
+          tells_so (AddsOne (call.Bind link ip (Some port))) (AddsBy (λ cs. list_any is_failed_on_a_link cs ≡ false → later ≡ links))
+          (λ old new is. (call.Bind link ip (Some port) ∷ [], is, λ none. cause.still)) before now told;
+    }
+bind_links (Err e) link ip links later before now cause told =
+    record {
+      never_falls = cause.never_falls;
+      still =
+          tells_so (AddsOne (call.Bind link ip None)) (AddsBy (λ cs. list_any is_failed_on_a_link cs ≡ false → later ≡ links))
+          (λ old new is. (call.Bind link ip None ∷ [], is, λ none. absurd cc)) before now told;
+    }
 
 -- ---- results
 

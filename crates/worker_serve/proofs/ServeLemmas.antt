@@ -1,97 +1,27 @@
 -- How a worker is served event by event: what holds of all events so far.
-use Rattle.std.proofs.Common.{◌≡◌, ◌+◌, ℕ, zero, suc, List, [], ◌∷◌, ◌++◌, length, take, drop, map, true, false, cond, Option, Some, None, refl, sym, ap, subst, ◌∙◌, append_assoc, arith}
-use Rattle.std.specs.List.{AllByRecursion}
+use Rattle.std.proofs.Common.{◌≡◌, ℕ, List, [], ◌∷◌, ◌++◌, map, Bool, false, Option, Some, None, Ok, Err, refl, sym, ap, subst, ◌∙◌, append_assoc}
 use Rattle.std.proofs.lemmas.List.{append-nil}
-use Rattle.channel_frames.specs.Frames.{frames, frames_within, rest_of, new_frames, begins_too_long, begins_with_frame, told_length}
+use Rattle.channel_frames.specs.Frames.{frame, frames, rest_of, new_frames, begins_too_long}
 use Rattle.channel_frames.specs.Reading.{Reading, unstarted}
-use Rattle.rtp_packet.specs.Packet.{AreBytes}
-use Rattle.ms_devices.specs.Outside.{event_of}
 use Rattle.ms_devices.specs.Told.{Tells, AddsOne}
 use Rattle.ms_devices.specs.declared.events.GivenEvent.{GivenEvent}
 use Rattle.ms_devices.specs.declared.events.GivenEvent.TheVariants as given
-use Rattle.ms_devices.specs.declared.events.InEvent.{InEvent}
-use Rattle.ms_devices.specs.declared.events.InEvent.TheVariants as answer
 use Rattle.ms_devices.specs.declared.events.OutCall.{OutCall}
-use Rattle.worker_engine.specs.Laws.{AreEvents, AreEventBytes, SaidIsTheOutput}
-use Rattle.worker_engine.specs.Objects.{Worker, nothing_yet}
-use Rattle.worker_engine.specs.Run.{Event, payload, datagram, Outgoing, say, said, said_from, after, after_all, worker_after, running_payload}
-use Rattle.worker_serve.specs.Hearing.{AreGivenBytes, FrameLaws, IsReadTo, IsTrueOf, channel_bytes, events_at}
-use Rattle.worker_serve.specs.Sending.{AddsBy, CountsTo, IsNoBreak, SentTo, StopsAtAFault, calls_from}
+use Rattle.ms_devices.specs.declared.events.OutCall.TheVariants as call
+use Rattle.worker_calls.specs.Requests.{notify}
+use Rattle.worker_calls.specs.State.{Worker, idle}
+use Rattle.worker_engine.specs.Outside.{call_of, unanswered}
+use Rattle.worker_engine.specs.Run.{Event, payload, datagram}
+use Rattle.worker_requests.specs.declared.notice.WorkerNotice.TheVariants.{Running}
+use Rattle.worker_requests.specs.Said.{notice_payload}
+use Rattle.worker_serve.specs.Hearing.{FrameLaws, IsReadTo, IsTrueOf, channel_bytes, events_at}
+use Rattle.worker_serve.specs.Sending.{AddsBy, CountsTo, Goes, IsCut, IsNoBreak, ServedTo, Serves}
 use Rattle.worker_serve.specs.ServeEnds.{GivenBy, MadeBy, ReadsBy, WritesBy, end_of}
-use Rattle.worker_serve.specs.Serving.{IsUnbroken, IsToTheEnd, IsOutput, IsCutByAFault, IsCutShort, call_of, events_behind, events_of, output_calls, stream_of}
+use Rattle.worker_serve.specs.Serving.{AreHeard, IsBegun, IsCutShort, IsOutput, IsToTheEnd, IsUnbroken, answers_in, events_behind, events_of, is_waiting, stream_of}
 use Rattle.worker_serve.specs.declared.fault.ServeFault.{ServeFault}
 use Rattle.worker_serve.specs.declared.fault.ServeFault.TheVariants as fault
-use Rattle.worker_serve.proofs.HearingLemmas.{call_of-append}
-use Rattle.worker_serve.proofs.SendingLemmas.{Before, front-later, stops-later, tells_so, tells_then}
-
--- ---- bytes
-
-bytes-tail : (x : ℕ) (xs : List ℕ) → AreBytes (x ∷ xs) → AreBytes xs
-bytes-tail x xs are = λ i. are (suc i)
-
-bytes-take : (n : ℕ) (xs : List ℕ) → AreBytes xs → AreBytes (take n xs)
-bytes-take zero xs are i = omega arith
-bytes-take (suc n) [] are i = omega arith
-bytes-take (suc n) (x ∷ xs) are zero = are zero
-bytes-take (suc n) (x ∷ xs) are (suc i) = bytes-take n xs (bytes-tail x xs are) i
-
-bytes-drop : (n : ℕ) (xs : List ℕ) → AreBytes xs → AreBytes (drop n xs)
-bytes-drop zero xs are = are
-bytes-drop (suc n) [] are = are
-bytes-drop (suc n) (x ∷ xs) are = bytes-drop n xs (bytes-tail x xs are)
-
-bytes-append : (xs ys : List ℕ) → AreBytes xs → AreBytes ys → AreBytes (xs ++ ys)
-bytes-append [] ys a b i = b i
-bytes-append (x ∷ xs) ys a b zero = a zero
-bytes-append (x ∷ xs) ys a b (suc i) = bytes-append xs ys (bytes-tail x xs a) b i
-
-all-append : {A : Type 0} (P : A → Type 0) (xs ys : List A) → AllByRecursion P xs → AllByRecursion P ys → AllByRecursion P (xs ++ ys)
-all-append P [] ys a b = b
-all-append P (x ∷ xs) ys a b = (a.0, all-append P xs ys a.1 b)
-
-all-drop : {A : Type 0} (P : A → Type 0) (n : ℕ) (xs : List A) → AllByRecursion P xs → AllByRecursion P (drop n xs)
-all-drop P zero xs all = all
-all-drop P (suc n) [] all = all
-all-drop P (suc n) (x ∷ xs) all = all-drop P n xs all.1
-
-frames-within-bytes : (n : ℕ) (stream : List ℕ) → AreBytes stream → AllByRecursion AreBytes (frames_within n stream)
-unfolding frames_within
-frames-within-bytes zero stream are = tt
-frames-within-bytes (suc n) stream are =
-    let size = told_length stream in
-    elim (begins_with_frame stream) as (λ b. AllByRecursion AreBytes (cond b (take size (drop 4 stream) ∷ frames_within n (drop (4 + size) stream)) [])) [
-      | true ↦ (bytes-take size (drop 4 stream) (bytes-drop 4 stream are), frames-within-bytes n (drop (4 + size) stream) (bytes-drop (4 + size) stream are))
-      | false ↦ tt
-    ]
-
-payloads-are-bytes : (payloads : List (List ℕ)) → AllByRecursion AreBytes payloads → AreEvents (map payload payloads)
-payloads-are-bytes [] all = tt
-payloads-are-bytes (p ∷ ps) all = (all.0, payloads-are-bytes ps all.1)
-
-new-events : (stream bytes : List ℕ) → AreBytes stream → AreBytes bytes → AreEvents (map payload (new_frames stream bytes))
-new-events stream bytes a b =
-    payloads-are-bytes (new_frames stream bytes)
-    (all-drop AreBytes (length (frames stream)) (frames (stream ++ bytes)) (frames-within-bytes (length (stream ++ bytes)) (stream ++ bytes) (bytes-append stream bytes a b)))
-
--- each number of all that was given is a byte's
-abbrev pub AllGivenBytes : List GivenEvent → Type 0
-AllGivenBytes events = AllByRecursion AreGivenBytes events
-
-are-events : (stream : List ℕ) (events : List GivenEvent) → AreBytes stream → AllGivenBytes events → AreEvents (events_behind stream events)
-are-events stream [] a all = tt
-are-events stream (given.Channel bytes ∷ later) a all =
-    all-append AreEventBytes (map payload (new_frames stream bytes)) (events_behind (stream ++ bytes) later) (new-events stream bytes a all.0)
-    (are-events (stream ++ bytes) later (bytes-append stream bytes a all.0) all.1)
-are-events stream (given.Datagram link from packet ∷ later) a all = (all.0, are-events stream later a all.1)
-are-events stream (given.End ∷ later) a all = are-events stream later a all.1
-
-no-bytes : AreBytes []
-no-bytes = λ i. omega arith
-
-pub given_bytes : (event : InEvent) (place : List ℕ) → AreBytes place → AreGivenBytes (event_of event place)
-given_bytes (answer.Channel len) place are = bytes-take len place are
-given_bytes (answer.Datagram link from len) place are = bytes-take len place are
-given_bytes answer.End place are = tt
+use Rattle.worker_serve.proofs.EventLemmas.{all_heard, served_then, serves_nothing, serves_then}
+use Rattle.worker_serve.proofs.SendingLemmas.{adds_so, tells_so, tells_then}
 
 -- ---- one event more
 
@@ -120,129 +50,172 @@ events-more laws stream (given.Channel bytes ∷ later) e =
 events-more laws stream (given.Datagram link from packet ∷ later) e = ap (λ (x : List Event). datagram link from packet ∷ x) (events-more laws stream later e)
 events-more laws stream (given.End ∷ later) e = events-more laws stream later e
 
-after-append : (w : Worker) (es fs : List Event) → after_all w (es ++ fs) ≡ after_all (after_all w es) fs
-after-append w [] fs = refl
-after-append w (e ∷ es) fs = after-append (after w e) es fs
+-- ---- what is heard so far
 
-said-append : (w : Worker) (es fs : List Event) → said_from w (es ++ fs) ≡ said_from w es ++ said_from (after_all w es) fs
-said-append w [] fs = refl
-said-append w (e ∷ es) fs =
-    ap (λ (x : List Outgoing). said w e ++ x) (said-append (after w e) es fs) ∙ sym (append_assoc (said w e) (said_from (after w e) es) (said_from (after_all (after w e) es) fs))
-
-output-is : SaidIsTheOutput → (events : List GivenEvent) → AllGivenBytes events → output_calls events ≡ call_of (say running_payload) ∷ calls_from nothing_yet (events_of events)
-output-is law events all =
-    ap (λ (xs : List Outgoing). call_of (say running_payload) ∷ map call_of xs) (sym (law (events_of events) (are-events [] events no-bytes all)))
-
--- what all events so far come to, and what one more adds
-output-more :
-    FrameLaws → SaidIsTheOutput → (events : List GivenEvent) (e : GivenEvent) → AllGivenBytes events → AreGivenBytes e
-    → output_calls (events ++ e ∷ []) ≡ output_calls events ++ calls_from (worker_after (events_of events)) (events_at (rest_of (stream_of events)) e)
-output-more laws law events e all are =
-    let old = events_of events in
-    let added = events_at (rest_of (stream_of events)) e in
-    let all-more = all-append AreGivenBytes events (e ∷ []) all (are, tt) in
-    output-is law (events ++ e ∷ []) all-more
-    ∙ (ap (λ (es : List Event). call_of (say running_payload) ∷ calls_from nothing_yet es) (events-more laws [] events e)
-    ∙ (ap (λ (xs : List Outgoing). call_of (say running_payload) ∷ map call_of xs) (said-append nothing_yet old added)
-    ∙ (ap (λ (cs : List OutCall). call_of (say running_payload) ∷ cs) (call_of-append (said_from nothing_yet old) (said_from (after_all nothing_yet old) added))
-    ∙ ap (λ (cs : List OutCall). cs ++ calls_from (worker_after old) added) (sym (output-is law events all)))))
-
--- ---- a worker that serves
-
--- all that was given so far is heard
-pub record HasHeard (worker : Worker) (reader : Reading) (events : List GivenEvent) : Type 0 where
-  pub state : worker ≡ worker_after (events_of events)
-  pub read : IsReadTo reader (stream_of events)
-  pub bytes : AllGivenBytes events
+-- all that was given so far is read
+abbrev pub HasRead : Reading → List GivenEvent → Type 0
+HasRead r events = IsReadTo r (stream_of events)
 
 unread-is : FrameLaws → (r : Reading) (stream : List ℕ) → IsReadTo r stream → r.unread ≡ rest_of stream
 unread-is laws r stream read = sym (laws.no_frames r.unread read.none_left) ∙ ap (λ (x : Reading). x.unread) read.same
 
--- what the next event adds
-whole-is :
-    FrameLaws → SaidIsTheOutput → (w : Worker) (r : Reading) (events : List GivenEvent) (calls : List OutCall) (e : GivenEvent) → AreGivenBytes e
-    → HasHeard w r events → IsOutput events calls → output_calls (events ++ e ∷ []) ≡ calls ++ calls_from w (events_at r.unread e)
-whole-is laws law w r events calls e are heard made =
-    output-more laws law events e heard.bytes are
-    ∙ (ap (λ (cs : List OutCall). cs ++ calls_from (worker_after (events_of events)) (events_at (rest_of (stream_of events)) e)) (sym made)
-    ∙ (ap (λ (v : Worker). calls ++ calls_from v (events_at (rest_of (stream_of events)) e)) (sym heard.state)
-    ∙ ap (λ (x : List ℕ). calls ++ calls_from w (events_at x e)) (sym (unread-is laws r (stream_of events) heard.read))))
+new-events : FrameLaws → (r : Reading) (events : List GivenEvent) (e : GivenEvent) → HasRead r events → events_of (events ++ e ∷ []) ≡ events_of events ++ events_at r.unread e
+new-events laws r events e read =
+    events-more laws [] events e ∙ ap (λ (x : List ℕ). events_of events ++ events_at x e) (sym (unread-is laws r (stream_of events) read))
 
--- the next event is heard
-pub heard_more :
-    FrameLaws → (w v : Worker) (r s : Reading) (e : GivenEvent) → AreGivenBytes e
-    → v ≡ after_all w (events_at r.unread e) → ((stream : List ℕ) → IsReadTo r stream → IsReadTo s (stream ++ channel_bytes e))
-    → (events : List GivenEvent) → HasHeard w r events → HasHeard v s (events ++ e ∷ [])
-heard_more laws w v r s e are next read events heard =
+-- the next event is read
+pub read_more :
+    (r s : Reading) (e : GivenEvent) → ((stream : List ℕ) → IsReadTo r stream → IsReadTo s (stream ++ channel_bytes e))
+    → (events : List GivenEvent) → HasRead r events → HasRead s (events ++ e ∷ [])
+read_more r s e read events so-far = subst (IsReadTo s) (sym (stream-more events e)) (read (stream_of events) so-far)
+
+-- ---- what is served so far
+
+-- the call by which the worker says that it runs
+abbrev pub running : OutCall
+running = call_of (notify Running)
+
+-- all that was given so far is served, and the worker is left in this state
+pub record HasServed (w : Worker) (events : List GivenEvent) (calls : List OutCall) : Type 0 where
+  pub later : List OutCall
+  pub calls_are : calls ≡ running ∷ later
+  pub served : Serves idle (events_of events) w later
+
+-- what the next event adds
+pub served_more :
+    FrameLaws → (w v : Worker) (r : Reading) (e : GivenEvent) (events : List GivenEvent) (calls added : List OutCall)
+    → HasRead r events → HasServed w events calls → (is_waiting w ≡ false → Serves w (events_at r.unread e) v added) → HasServed v (events ++ e ∷ []) (calls ++ added)
+served_more laws w v r e events calls added read so-far next =
     record {
-      state =
-          next
-          ∙ (ap (λ (x : List ℕ). after_all w (events_at x e)) (unread-is laws r (stream_of events) heard.read)
-          ∙ (ap (λ (u : Worker). after_all u (events_at (rest_of (stream_of events)) e)) heard.state
-          ∙ (sym (after-append nothing_yet (events_of events) (events_at (rest_of (stream_of events)) e)) ∙ ap (λ (es : List Event). after_all nothing_yet es) (sym (events-more laws [] events e)))));
-      read = subst (IsReadTo s) (sym (stream-more events e)) (read (stream_of events) heard.read);
-      bytes = all-append AreGivenBytes events (e ∷ []) heard.bytes (are, tt);
+      later = so-far.later ++ added;
+      calls_are = ap (λ (x : List OutCall). x ++ added) so-far.calls_are;
+      served =
+          subst (λ (es : List Event). Serves idle es v (so-far.later ++ added)) (sym (new-events laws r events e read))
+          (serves_then idle w v (events_of events) (events_at r.unread e) so-far.later added so-far.served (next so-far.served.answered));
     }
 
--- and what it comes to is sent
-pub output_more :
-    FrameLaws → SaidIsTheOutput → (w : Worker) (r : Reading) (e : GivenEvent) → AreGivenBytes e → (events : List GivenEvent) (calls added : List OutCall)
-    → HasHeard w r events → IsOutput events calls → added ≡ calls_from w (events_at r.unread e) → IsOutput (events ++ e ∷ []) (calls ++ added)
-output_more laws law w r e are events calls added heard made is =
-    ap (λ (cs : List OutCall). calls ++ cs) is ∙ sym (whole-is laws law w r events calls e are heard made)
+heard-running : (given : List Event) (calls later : List OutCall) (events : List Event) → calls ≡ running ∷ later → AreHeard idle given later events → AreHeard idle given calls events
+heard-running given calls later events is heard =
+    record { given_is = heard.given_is; answers_are = heard.answers_are ∙ ap answers_in (sym is); in_step = heard.in_step }
 
-cut-is : (events : List GivenEvent) (calls : List OutCall) → StopsAtAFault (output_calls events) calls → IsCutByAFault events calls
-cut-is events calls stop = record { made = stop.made; bytes = stop.bytes; later = stop.later; output = stop.whole_is; calls_are = stop.calls_are }
+-- it is the output
+pub output_is : (w : Worker) (events : List GivenEvent) (calls : List OutCall) → HasServed w events calls → IsOutput events calls
+output_is w events calls so-far =
+    let s = so-far.served in
+    record {
+      events = s.events;
+      heard = heard-running (events_of events) calls so-far.later s.events so-far.calls_are s.heard;
+      answered = ap is_waiting (sym s.state) ∙ s.answered;
+      output = ap (λ (x : List OutCall). map unanswered x) so-far.calls_are ∙ ap (λ (x : List OutCall). running ∷ x) s.sent;
+    }
 
-whole-before :
-    FrameLaws → SaidIsTheOutput → (w : Worker) (r : Reading) (events : List GivenEvent) (calls : List OutCall) (e : GivenEvent) → AreGivenBytes e
-    → HasHeard w r events → IsOutput events calls → Before (output_calls (events ++ e ∷ [])) (calls_from w (events_at r.unread e) ++ []) calls
-whole-before laws law w r events calls e are heard made =
-    whole-is laws law w r events calls e are heard made ∙ ap (λ (cs : List OutCall). calls ++ cs) (sym (append-nil (calls_from w (events_at r.unread e))))
+begun-by :
+    (f : ServeFault) (events : List GivenEvent) (calls later : List OutCall) (is : calls ≡ running ∷ later) (c : IsCut f idle (events_of events) later) → IsBegun events calls c.events
+begun-by f events calls later is c =
+    record { first = c.first; rest = c.rest; given_is = c.given_is; heard = heard-running c.first calls later c.events is c.heard }
+
+-- where a fault ended it
+made-by :
+    (f : ServeFault) (events : List GivenEvent) (calls later : List OutCall) → calls ≡ running ∷ later → ServedTo f idle (events_of events) later → MadeBy (end_of f) events calls
+made-by fault.Write events calls later is c =
+    record {
+      events = c.events;
+      begun = begun-by fault.Write events calls later is c;
+      made = running ∷ c.sent.made;
+      bytes = c.sent.bytes;
+      later = c.sent.later;
+      output = ap (λ (x : List OutCall). running ∷ x) c.sent.whole_is;
+      calls_are = ap (λ (x : List OutCall). map unanswered x) is ∙ ap (λ (x : List OutCall). running ∷ x) c.sent.calls_are;
+    }
+made-by (fault.TooLong place told) events calls later is c = output_is c.0 events calls (record { later = later; calls_are = is; served = c.1 })
+made-by fault.NoMemory events calls later is c =
+    record {
+      events = c.events;
+      begun = begun-by fault.NoMemory events calls later is c;
+      later = c.sent.0;
+      output = ap (λ (x : List OutCall). running ∷ x) c.sent.1 ∙ ap (λ (x : List OutCall). map unanswered x ++ c.sent.0) (sym is);
+    }
+
+pub output_stops :
+    FrameLaws → (f : ServeFault) (w : Worker) (r : Reading) (e : GivenEvent) (events : List GivenEvent) (calls added : List OutCall)
+    → HasRead r events → HasServed w events calls → (is_waiting w ≡ false → ServedTo f w (events_at r.unread e) added) → MadeBy (end_of f) (events ++ e ∷ []) (calls ++ added)
+output_stops laws f w r e events calls added read so-far next =
+    made-by f (events ++ e ∷ []) (calls ++ added) (so-far.later ++ added) (ap (λ (x : List OutCall). x ++ added) so-far.calls_are)
+    (subst (λ (es : List Event). ServedTo f idle es (so-far.later ++ added)) (sym (new-events laws r events e read))
+    (served_then f idle w (events_of events) (events_at r.unread e) so-far.later added so-far.served (next so-far.served.answered)))
 
 -- what was given where a fault ends it
 pub given_stops :
-    (f : ServeFault) (w : Worker) (r : Reading) (e : GivenEvent) → ((stream : List ℕ) → IsReadTo r stream → IsTrueOf (stream ++ channel_bytes e) f)
-    → (events : List GivenEvent) → HasHeard w r events → GivenBy (end_of f) (events ++ e ∷ [])
-given_stops fault.Write w r e break events heard = tt
-given_stops (fault.TooLong place told) w r e break events heard =
-    subst (λ (s : List ℕ). IsTrueOf s (fault.TooLong place told)) (sym (stream-more events e)) (break (stream_of events) heard.read)
-given_stops fault.NoMemory w r e break events heard = tt
+    (f : ServeFault) (r : Reading) (e : GivenEvent) → ((stream : List ℕ) → IsReadTo r stream → IsTrueOf (stream ++ channel_bytes e) f)
+    → (events : List GivenEvent) → HasRead r events → GivenBy (end_of f) (events ++ e ∷ [])
+given_stops fault.Write r e break events read = tt
+given_stops (fault.TooLong place told) r e break events read =
+    subst (λ (s : List ℕ). IsTrueOf s (fault.TooLong place told)) (sym (stream-more events e)) (break (stream_of events) read)
+given_stops fault.NoMemory r e break events read = tt
 
--- and what was sent
-pub output_stops :
-    FrameLaws → SaidIsTheOutput → (f : ServeFault) (w : Worker) (r : Reading) (e : GivenEvent) → AreGivenBytes e
-    → (events : List GivenEvent) (calls added : List OutCall) → HasHeard w r events → IsOutput events calls
-    → SentTo f (calls_from w (events_at r.unread e)) added → MadeBy (end_of f) (events ++ e ∷ []) (calls ++ added)
-output_stops laws law fault.Write w r e are events calls added heard made sent =
-    cut-is (events ++ e ∷ []) (calls ++ added)
-    (stops-later (output_calls (events ++ e ∷ [])) (calls_from w (events_at r.unread e)) [] calls added (whole-before laws law w r events calls e are heard made) sent)
-output_stops laws law (fault.TooLong place told) w r e are events calls added heard made sent = output_more laws law w r e are events calls added heard made sent
-output_stops laws law fault.NoMemory w r e are events calls added heard made sent =
-    front-later (output_calls (events ++ e ∷ [])) (calls_from w (events_at r.unread e)) [] calls added (whole-before laws law w r events calls e are heard made) sent
+pub output_short : (w : Worker) (events : List GivenEvent) (calls : List OutCall) → HasServed w events calls → IsCutShort events calls
+output_short w events calls so-far =
+    made-by fault.NoMemory events calls so-far.later so-far.calls_are (all_heard idle w (events_of events) so-far.later so-far.served)
 
 -- ---- the beginning
 
-pub heard_nothing : FrameLaws → (w : Worker) (r : Reading) → w ≡ nothing_yet → r ≡ unstarted → HasHeard w r []
-heard_nothing laws w r new unread =
-    record {
-      state = new;
-      read = subst (λ (x : Reading). IsReadTo x []) (sym unread) (record { none_left = laws.none; same = refl; unbroken = ap begins_too_long laws.no_rest });
-      bytes = tt;
-    }
+pub read_nothing : FrameLaws → (r : Reading) → r ≡ unstarted → HasRead r []
+read_nothing laws r unread =
+    subst (λ (x : Reading). IsReadTo x []) (sym unread) (record { none_left = laws.none; same = refl; unbroken = ap begins_too_long laws.no_rest })
 
-pub output_starts : SaidIsTheOutput → (added : List OutCall) → added ≡ call_of (say running_payload) ∷ [] → IsOutput [] added
-output_starts law added is = is ∙ sym (output-is law [] tt)
+-- a call on the channel tells no answer
+channel-is : (c : OutCall) (bytes : List ℕ) (failed : Bool) → unanswered c ≡ call.Channel bytes failed → c ≡ call.Channel bytes failed
+channel-is (call.Bind link ip port) bytes failed is = absurd cc
+channel-is (call.Shut link) bytes failed is = absurd cc
+channel-is (call.Channel b f) bytes failed is = is
+channel-is (call.Datagram link to packet f) bytes failed is = absurd cc
+
+running-is : (added : List OutCall) → map unanswered added ≡ running ∷ [] → added ≡ running ∷ []
+running-is [] is = absurd cc
+running-is (c ∷ []) is =
+    let one : unanswered c ≡ running = cc in
+    ap (λ (x : OutCall). x ∷ []) (channel-is c (frame (notice_payload Running)) false one)
+running-is (c ∷ d ∷ more) is = absurd cc
+
+-- the worker has said that it runs
+pub served_nothing : (w : Worker) → w ≡ idle → (added : List OutCall) → Goes (Ok (tt {0})) (running ∷ []) added → HasServed w [] added
+served_nothing w is added goes =
+    record { later = []; calls_are = running-is added goes.sent; served = subst (λ (x : Worker). Serves idle [] x []) (sym is) (serves_nothing idle refl) }
+
+pub started_all : (T : Type 0) (x : T) (before now : Option (List OutCall)) → Tells (AddsBy (Goes (Ok x) (running ∷ []))) before now → Tells (AddsBy (Goes (Ok (tt {0})) (running ∷ []))) before now
+started_all T x before now sent =
+    adds_so (Goes (Ok x) (running ∷ [])) (Goes (Ok (tt {0})) (running ∷ [])) (λ a goes. record { sent = goes.sent; no_answers = goes.no_answers }) before now sent
+
+pub started_cut :
+    (T : Type 0) (f : ServeFault) (before now : Option (List OutCall)) → Tells (AddsBy (Goes {T = T} (Err f) (running ∷ []))) before now
+    → Tells (AddsBy (Goes {T = Unit {0}} (Err f) (running ∷ []))) before now
+started_cut T f before now sent =
+    adds_so (Goes {T = T} (Err f) (running ∷ [])) (Goes {T = Unit {0}} (Err f) (running ∷ [])) (λ a goes. record { sent = goes.sent; no_answers = goes.no_answers }) before now sent
 
 pub start_given : (f : ServeFault) → IsNoBreak f → GivenBy (end_of f) []
 start_given fault.Write none = tt
 start_given (fault.TooLong place told) none = absurd none
 start_given fault.NoMemory none = tt
 
-pub start_made : SaidIsTheOutput → (f : ServeFault) → IsNoBreak f → (added : List OutCall) → SentTo f (call_of (say running_payload) ∷ []) added → MadeBy (end_of f) [] added
-start_made law fault.Write none added sent = cut-is [] added (subst (λ (w : List OutCall). StopsAtAFault w added) (sym (output-is law [] tt)) sent)
-start_made law (fault.TooLong place told) none added sent = absurd none
-start_made law fault.NoMemory none added sent = (sent.0, output-is law [] tt ∙ sent.1)
+begun-nothing : (added : List OutCall) → answers_in added ≡ [] → IsBegun [] added []
+begun-nothing added none =
+    record { first = []; rest = []; given_is = refl; heard = record { given_is = refl; answers_are = sym none; in_step = tt } }
+
+-- it can't say that
+pub start_made : (f : ServeFault) → IsNoBreak f → (added : List OutCall) → Goes {T = Unit {0}} (Err f) (running ∷ []) added → MadeBy (end_of f) [] added
+start_made fault.Write none added goes =
+    record {
+      events = [];
+      begun = begun-nothing added goes.no_answers;
+      made = goes.sent.made;
+      bytes = goes.sent.bytes;
+      later = goes.sent.later;
+      output = goes.sent.whole_is;
+      calls_are = goes.sent.calls_are;
+    }
+start_made (fault.TooLong place told) none added goes = absurd none
+start_made fault.NoMemory none added goes =
+    record { events = []; begun = begun-nothing added goes.no_answers; later = goes.sent.0; output = goes.sent.1 }
 
 -- ---- as far as it is told
 
@@ -304,13 +277,9 @@ stopped_written fault.NoMemory before now is = is
 
 -- ---- what a worker that serves has served
 
-pub heard_unbroken : (w : Worker) (r : Reading) (events : List GivenEvent) → HasHeard w r events → IsUnbroken events
-heard_unbroken w r events heard = heard.read.unbroken
+pub read_unbroken : (r : Reading) (events : List GivenEvent) → HasRead r events → IsUnbroken events
+read_unbroken r events read = read.unbroken
 
-pub heard_to_the_end :
-    (w : Worker) (r : Reading) (events : List GivenEvent) (e : GivenEvent) → e ≡ given.End → HasHeard w r (events ++ e ∷ []) → IsToTheEnd (events ++ e ∷ [])
-heard_to_the_end w r events e is heard =
-    record { unbroken = heard.read.unbroken; ended = (events, ap (λ (x : GivenEvent). events ++ x ∷ []) is) }
-
-pub output_short : (events : List GivenEvent) (calls : List OutCall) → IsOutput events calls → IsCutShort events calls
-output_short events calls made = ([], sym made ∙ sym (append-nil calls))
+pub read_to_the_end : (r : Reading) (events : List GivenEvent) (e : GivenEvent) → e ≡ given.End → HasRead r (events ++ e ∷ []) → IsToTheEnd (events ++ e ∷ [])
+read_to_the_end r events e is read =
+    record { unbroken = read.unbroken; ended = (events, ap (λ (x : GivenEvent). events ++ x ∷ []) is) }

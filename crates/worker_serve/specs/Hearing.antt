@@ -2,7 +2,6 @@
 use Rattle.std.specs.Prelude.{◌≡◌, ◌≤◌, ℕ, List, [], ◌∷◌, ◌++◌, true, false, map, ⊤}
 use Rattle.channel_frames.specs.Frames.{frames, new_frames, rest_of, is_broken, break_place, break_length, begins_too_long, told_length}
 use Rattle.channel_frames.specs.Reading.{Reading, drained, max_place, told_place, unstarted, with_piece}
-use Rattle.rtp_packet.specs.Packet.{AreBytes}
 use Rattle.ms_devices.specs.declared.events.GivenEvent.{GivenEvent}
 use Rattle.ms_devices.specs.declared.events.GivenEvent.TheVariants as given
 use Rattle.worker_engine.specs.Run.{Event, payload, datagram}
@@ -20,12 +19,6 @@ abbrev pub events_at : List ℕ → GivenEvent → List Event
 events_at unread (given.Channel bytes) = map payload (frames (unread ++ bytes))
 events_at unread (given.Datagram link from packet) = datagram link from packet ∷ []
 events_at unread given.End = []
-
--- each number of what was given is a byte's
-abbrev pub AreGivenBytes : GivenEvent → Type 0
-AreGivenBytes (given.Channel bytes) = AreBytes bytes
-AreGivenBytes (given.Datagram link from packet) = AreBytes packet
-AreGivenBytes given.End = ⊤
 
 -- A reader has handed out all payloads of a stream, which isn't broken.
 pub record IsReadTo (reader : Reading) (stream : List ℕ) : Type 0 where

@@ -4,7 +4,7 @@ use Rattle.ms_devices.specs.Causes.{Rose}
 use Rattle.ms_devices.specs.declared.events.GivenEvent.{GivenEvent}
 use Rattle.ms_devices.specs.declared.events.OutCall.{OutCall}
 use Rattle.worker_serve.specs.Hearing.{IsBreakOf}
-use Rattle.worker_serve.specs.Serving.{WorkerOutside, Since, IsUnbroken, IsToTheEnd, IsOutput, IsCutByAFault, IsCutShort, stream_of}
+use Rattle.worker_serve.specs.Serving.{WorkerOutside, Since, IsUnbroken, IsToTheEnd, IsOutput, IsCutByAFault, IsCutShort, IsOfLinks, stream_of}
 use Rattle.worker_serve.specs.declared.fault.ServeFault.{ServeFault}
 use Rattle.worker_serve.specs.declared.fault.ServeFault.TheVariants as fault
 use Rattle.worker_serve.specs.declared.serving.ServeEnd.{ServeEnd}
@@ -54,5 +54,4 @@ pub record IsServe (end : ServeEnd) (before now : WorkerOutside) : Type 0 where
   pub served : Since (GivenBy end) (MadeBy end) before now
   pub reads : ReadsBy end before.read_faults now.read_faults
   pub writes : WritesBy end before.channel_faults now.channel_faults
-  -- no link is made use of
-  pub links : now.link_faults ≡ before.link_faults
+  pub links : IsOfLinks before.link_faults now.link_faults before.calls now.calls

@@ -1,16 +1,16 @@
-ghost use Rattle.std.specs.Prelude.{◌≡◌, ◌≤◌, [], ◌∷◌, length, IfOk, IfErr};
+ghost use Rattle.std.specs.Prelude.{◌≡◌, ◌≤◌, [], ◌∷◌, length, IfErr};
 ghost use Rattle.channel_frames.specs.Frames.{max_payload};
 ghost use Rattle.ms_devices.specs.Told.{Tells};
-ghost use Rattle.worker_engine.specs.Run.{running_payload, say};
-ghost use Rattle.worker_serve.specs.Sending.{AddsBy, CountsBy, IsNoBreak, SentBy};
-ghost use Rattle.worker_serve.specs.Serving.{call_of};
+ghost use Rattle.worker_calls.specs.Requests.{notify, say};
+ghost use Rattle.worker_engine.specs.Outside.{call_of};
+ghost use Rattle.worker_serve.specs.Sending.{AddsBy, CountsBy, Goes, IsNoBreak};
 
 use crate::fault::ServeFault;
 use channel_frames::{FrameFault, write_frame};
-use channel_msgs::{Notice, write_notice};
-use ms_base::{Bytes, NoMemory, Text};
+use ms_base::Bytes;
 use ms_devices::Outbox;
 use std::alloc::Global;
+use worker_requests::{WorkerNotice, write_worker_notice};
 
 /// Says one payload on the channel. What the frame held before is let go.
 pub(crate) fn say<O: Outbox>(
@@ -20,7 +20,7 @@ pub(crate) fn say<O: Outbox>(
     outbox: &mut O,
 ) -> Result<(), ServeFault>
     requires { length payload.now ≤ max_payload }
-    ensures sent { Tells (AddsBy (SentBy result (call_of (say payload.now) ∷ []))) (O.calls outbox.old) (O.calls outbox.new) }
+    ensures sent { Tells (AddsBy (Goes result (call_of (say payload.now) ∷ []))) (O.calls outbox.old) (O.calls outbox.new) }
     ensures counts { CountsBy result (O.channel_faults outbox.old) (O.channel_faults outbox.new) }
     ensures links { O.link_faults outbox.new ≡ O.link_faults outbox.old }
     ensures no_break { IfErr result IsNoBreak }
@@ -44,27 +44,13 @@ pub(crate) fn say_running<O: Outbox>(
     frame: &mut Bytes,
     outbox: &mut O,
 ) -> Result<(), ServeFault>
-    ensures sent { Tells (AddsBy (SentBy result (call_of (say running_payload) ∷ []))) (O.calls outbox.old) (O.calls outbox.new) }
+    ensures sent { Tells (AddsBy (Goes result (call_of (notify WorkerNotice.Running) ∷ []))) (O.calls outbox.old) (O.calls outbox.new) }
     ensures counts { CountsBy result (O.channel_faults outbox.old) (O.channel_faults outbox.new) }
     ensures links { O.link_faults outbox.new ≡ O.link_faults outbox.old }
     ensures no_break { IfErr result IsNoBreak }
 {
-    let Ok(payload) = running(alloc) else {
+    let Ok(payload) = write_worker_notice(alloc, WorkerNotice::Running) else {
         return Err(ServeFault::NoMemory);
     };
     say(alloc, payload.as_slice(), frame, outbox)
-}
-
-// The notice that a worker begins with.
-#[tactic(auto, using(crate::proofs::SayLemmas::running_is_short))]
-fn running(alloc: Global) -> Result<Bytes, NoMemory>
-    ensures payload { IfOk result (λ payload. payload ≡ running_payload) }
-    ensures limit { IfOk result (λ payload. length payload ≤ max_payload) }
-{
-    let notice = Notice {
-        target: Text::from_str(alloc, "worker")?,
-        event: Text::from_str(alloc, "running")?,
-        content: None,
-    };
-    write_notice(alloc, &notice)
 }

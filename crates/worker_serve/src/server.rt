@@ -1,18 +1,22 @@
-ghost use Rattle.std.specs.Prelude.{◌≡◌, ◌≢◌, ◌≤◌, ◌++◌, ◌∷◌, ℕ, List, [], length, map, true, false, All, IfOk, IfErr, OnOk, Ok, Err, None, option_to_list};
+ghost use Rattle.std.specs.Prelude.{◌≡◌, ◌≢◌, ◌≤◌, ◌++◌, ◌∷◌, ℕ, List, [], length, map, false, IfOk, IfErr, OnOk, Ok, Err, None, option_to_list};
 ghost use Rattle.channel_frames.specs.Frames.{frames, is_broken};
 ghost use Rattle.channel_frames.specs.Reading.{unstarted, drained};
-ghost use Rattle.channel_msgs.specs.Read.{request_of};
+ghost use Rattle.channel_msgs.specs.Packet.{packet_in};
 ghost use Rattle.ms_devices.specs.Outside.{IsFit, event_of};
 ghost use Rattle.ms_devices.specs.Told.{Tells};
-ghost use Rattle.worker_engine.specs.Forwarding.{heard_from};
-ghost use Rattle.worker_engine.specs.Objects.{nothing_yet};
-ghost use Rattle.worker_engine.specs.Run.{after_all, after_heard, heard_in, payload, request_or_nothing, running_payload, say};
+ghost use Rattle.worker_calls.specs.Requests.{after_bound, notify, out_bound};
+ghost use Rattle.worker_calls.specs.State.{idle};
+ghost use Rattle.worker_engine.specs.Forwarding.{after_from, out_by};
+ghost use Rattle.worker_engine.specs.Outside.{call_of};
+ghost use Rattle.worker_engine.specs.Run.{payload};
+ghost use Rattle.worker_requests.specs.declared.notice.WorkerNotice.TheVariants.{Running};
 ghost use Rattle.worker_serve.specs.Hearing.{IsBreakAt, IsReadTo, IsTrueOf, IsTrueOfDrained, channel_bytes, events_at};
-ghost use Rattle.worker_serve.specs.Sending.{AddsBy, CountsBy, IsNoBreak, IsSayable, SentBy, act_call, calls_as_heard, calls_from};
-ghost use Rattle.worker_serve.specs.Serving.{call_of};
+ghost use Rattle.worker_serve.specs.Sending.{AddsBy, CountsBy, Goes, IsNoBreak, Opens, ServedBy};
+ghost use Rattle.worker_serve.specs.Serving.{IsOfLinks};
 
+use crate::carry_out::{Asked, asked_link, carry_out};
 use crate::fault::ServeFault;
-use crate::say::{say, say_running};
+use crate::say::say_running;
 use channel_frames::{FrameFault, FrameReader, readings_go_on_from_what_is_left};
 use channel_msgs::packet_of;
 use ms_base::{Bytes, NoMemory};
@@ -34,7 +38,7 @@ pub(crate) struct Server {
 impl Server {
     /// Before the first event.
     pub(crate) fn new(alloc: Global) -> Result<Server, NoMemory>
-        ensures engine { IfOk result (λ server. server.engine ≡ nothing_yet) }
+        ensures engine { IfOk result (λ server. server.engine ≡ idle) }
         ensures reader { IfOk result (λ server. server.reader ≡ unstarted) }
     {
         Ok(Server {
@@ -48,7 +52,7 @@ impl Server {
 
     /// Says that the worker runs.
     pub(crate) fn start<O: Outbox>(&mut self, outbox: &mut O) -> Result<(), ServeFault>
-        ensures sent { Tells (AddsBy (SentBy result (call_of (say running_payload) ∷ []))) (O.calls outbox.old) (O.calls outbox.new) }
+        ensures sent { Tells (AddsBy (Goes result (call_of (notify Running) ∷ []))) (O.calls outbox.old) (O.calls outbox.new) }
         ensures engine { self.new.engine ≡ self.old.engine }
         ensures reader { self.new.reader ≡ self.old.reader }
         ensures counts { CountsBy result (O.channel_faults outbox.old) (O.channel_faults outbox.new) }
@@ -67,12 +71,11 @@ impl Server {
     ) -> Result<(), ServeFault>
         requires fit { IsFit event }
         requires room { EVENT_BYTES ≤ length place.now }
-        ensures state { OnOk result (self.new.engine ≡ after_all self.old.engine (events_at self.old.reader.unread (event_of event place.now))) }
-        ensures sent { Tells (AddsBy (SentBy result (calls_from self.old.engine (events_at self.old.reader.unread (event_of event place.now))))) (O.calls outbox.old) (O.calls outbox.new) }
+        ensures sent { Tells (AddsBy (ServedBy result self.old.engine (events_at self.old.reader.unread (event_of event place.now)) self.new.engine)) (O.calls outbox.old) (O.calls outbox.new) }
         ensures read { OnOk result ((stream : List ℕ) → IsReadTo self.old.reader stream → IsReadTo self.new.reader (stream ++ channel_bytes (event_of event place.now))) }
         ensures too_long { IfErr result (λ fault. (stream : List ℕ) → IsReadTo self.old.reader stream → IsTrueOf (stream ++ channel_bytes (event_of event place.now)) fault) }
         ensures counts { CountsBy result (O.channel_faults outbox.old) (O.channel_faults outbox.new) }
-        ensures links { O.link_faults outbox.new ≡ O.link_faults outbox.old }
+        ensures links { IsOfLinks (O.link_faults outbox.old) (O.link_faults outbox.new) (O.calls outbox.old) (O.calls outbox.new) }
     {
         match event {
             InEvent::Channel { len } => self.on_bytes(&place[..len], outbox),
@@ -85,12 +88,11 @@ impl Server {
 
     // Serves bytes of the channel.
     fn on_bytes<O: Outbox>(&mut self, bytes: &[u8], outbox: &mut O) -> Result<(), ServeFault>
-        ensures state { OnOk result (self.new.engine ≡ after_all self.old.engine (map payload (frames (self.old.reader.unread ++ bytes.now)))) }
-        ensures sent { Tells (AddsBy (SentBy result (calls_from self.old.engine (map payload (frames (self.old.reader.unread ++ bytes.now)))))) (O.calls outbox.old) (O.calls outbox.new) }
+        ensures sent { Tells (AddsBy (ServedBy result self.old.engine (map payload (frames (self.old.reader.unread ++ bytes.now))) self.new.engine)) (O.calls outbox.old) (O.calls outbox.new) }
         ensures read { OnOk result ((stream : List ℕ) → IsReadTo self.old.reader stream → IsReadTo self.new.reader (stream ++ bytes.now)) }
         ensures too_long { IfErr result (λ fault. (stream : List ℕ) → IsReadTo self.old.reader stream → IsTrueOf (stream ++ bytes.now) fault) }
         ensures counts { CountsBy result (O.channel_faults outbox.old) (O.channel_faults outbox.new) }
-        ensures links { O.link_faults outbox.new ≡ O.link_faults outbox.old }
+        ensures links { IsOfLinks (O.link_faults outbox.old) (O.link_faults outbox.new) (O.calls outbox.old) (O.calls outbox.new) }
     {
         // A law: the stream goes on from what a reader leaves of it.
         readings_go_on_from_what_is_left();
@@ -102,14 +104,13 @@ impl Server {
 
     // Serves the payloads that are whole.
     fn on_payloads<O: Outbox>(&mut self, outbox: &mut O) -> Result<(), ServeFault>
-        ensures state { OnOk result (self.new.engine ≡ after_all self.old.engine (map payload (frames self.old.reader.unread))) }
-        ensures sent { Tells (AddsBy (SentBy result (calls_from self.old.engine (map payload (frames self.old.reader.unread))))) (O.calls outbox.old) (O.calls outbox.new) }
+        ensures sent { Tells (AddsBy (ServedBy result self.old.engine (map payload (frames self.old.reader.unread)) self.new.engine)) (O.calls outbox.old) (O.calls outbox.new) }
         ensures drained { drained self.new.reader ≡ drained self.old.reader }
         ensures none_left { OnOk result (frames self.new.reader.unread ≡ []) }
         ensures unbroken { OnOk result (is_broken self.old.reader.unread ≡ false) }
         ensures too_long { IfErr result (IsTrueOfDrained (drained self.old.reader)) }
         ensures counts { CountsBy result (O.channel_faults outbox.old) (O.channel_faults outbox.new) }
-        ensures links { O.link_faults outbox.new ≡ O.link_faults outbox.old }
+        ensures links { IsOfLinks (O.link_faults outbox.old) (O.link_faults outbox.new) (O.calls outbox.old) (O.calls outbox.new) }
     {
         while let Some(payload) = next_payload(&mut self.reader)? {
             self.on_payload(payload.as_slice(), outbox)?;
@@ -118,17 +119,16 @@ impl Server {
     }
 
     // Serves one payload.
-    fn on_payload<O: Outbox>(&mut self, payload: &[u8], outbox: &mut O) -> Result<(), ServeFault>
-        ensures state { OnOk result (self.new.engine ≡ after_heard self.old.engine (heard_in payload.now)) }
-        ensures sent { Tells (AddsBy (SentBy result (calls_as_heard self.old.engine (heard_in payload.now)))) (O.calls outbox.old) (O.calls outbox.new) }
+    fn on_payload<O: Outbox>(&mut self, bytes: &[u8], outbox: &mut O) -> Result<(), ServeFault>
+        ensures sent { Tells (AddsBy (ServedBy result self.old.engine (payload bytes.now ∷ []) self.new.engine)) (O.calls outbox.old) (O.calls outbox.new) }
         ensures reader { self.new.reader ≡ self.old.reader }
         ensures counts { CountsBy result (O.channel_faults outbox.old) (O.channel_faults outbox.new) }
-        ensures links { O.link_faults outbox.new ≡ O.link_faults outbox.old }
+        ensures links { IsOfLinks (O.link_faults outbox.old) (O.link_faults outbox.new) (O.calls outbox.old) (O.calls outbox.new) }
         ensures no_break { IfErr result IsNoBreak }
     {
-        match packet_of(payload) {
+        match packet_of(bytes) {
             Some((id, packet)) => self.on_packet(PacketFrom::Direct(id), packet, outbox),
-            None => self.on_request(payload, outbox),
+            None => self.on_request(bytes, outbox),
         }
     }
 
@@ -139,11 +139,11 @@ impl Server {
         packet: &[u8],
         outbox: &mut O,
     ) -> Result<(), ServeFault>
-        ensures state { OnOk result (self.new.engine ≡ after_heard self.old.engine (heard_from from packet.now)) }
-        ensures sent { Tells (AddsBy (SentBy result (calls_as_heard self.old.engine (heard_from from packet.now)))) (O.calls outbox.old) (O.calls outbox.new) }
+        ensures state { OnOk result (self.new.engine ≡ after_from self.old.engine from packet.now) }
+        ensures sent { Tells (AddsBy (Goes result (map call_of (out_by self.old.engine from packet.now)))) (O.calls outbox.old) (O.calls outbox.new) }
         ensures reader { self.new.reader ≡ self.old.reader }
         ensures counts { CountsBy result (O.channel_faults outbox.old) (O.channel_faults outbox.new) }
-        ensures links { O.link_faults outbox.new ≡ O.link_faults outbox.old }
+        ensures links { IsOfLinks (O.link_faults outbox.old) (O.link_faults outbox.new) (O.calls outbox.old) (O.calls outbox.new) }
         ensures no_break { IfErr result IsNoBreak }
     {
         match self.engine.on_packet(from, packet, outbox) {
@@ -152,57 +152,52 @@ impl Server {
         }
     }
 
-    // Serves a payload that is no packet.
-    fn on_request<O: Outbox>(&mut self, payload: &[u8], outbox: &mut O) -> Result<(), ServeFault>
-        ensures state { OnOk result (self.new.engine ≡ after_heard self.old.engine (request_or_nothing (request_of payload.now))) }
-        ensures sent { Tells (AddsBy (SentBy result (calls_as_heard self.old.engine (request_or_nothing (request_of payload.now))))) (O.calls outbox.old) (O.calls outbox.new) }
+    // Serves a payload that is no packet. Where the worker asks for a link, it asks for nothing else.
+    fn on_request<O: Outbox>(&mut self, bytes: &[u8], outbox: &mut O) -> Result<(), ServeFault>
+        requires { packet_in bytes.now ≡ None }
+        ensures sent { Tells (AddsBy (ServedBy result self.old.engine (payload bytes.now ∷ []) self.new.engine)) (O.calls outbox.old) (O.calls outbox.new) }
+        ensures reader { self.new.reader ≡ self.old.reader }
+        ensures counts { CountsBy result (O.channel_faults outbox.old) (O.channel_faults outbox.new) }
+        ensures links { IsOfLinks (O.link_faults outbox.old) (O.link_faults outbox.new) (O.calls outbox.old) (O.calls outbox.new) }
+        ensures no_break { IfErr result IsNoBreak }
+    {
+        self.acts.clear();
+        if self.engine.on_payload(bytes, &mut self.acts).is_err() {
+            return Err(ServeFault::NoMemory);
+        }
+        match asked_link(self.acts.as_slice()) {
+            Some(asked) => self.open(asked, outbox),
+            None => carry_out(self.alloc, self.acts.as_slice(), &mut self.frame, outbox),
+        }
+    }
+
+    // Opens a link at the address, and tells the worker its port, or that it could not be opened.
+    fn open<O: Outbox>(&mut self, asked: Asked, outbox: &mut O) -> Result<(), ServeFault>
+        ensures sent { Tells (AddsBy (Opens result self.old.engine asked self.new.engine)) (O.calls outbox.old) (O.calls outbox.new) }
+        ensures reader { self.new.reader ≡ self.old.reader }
+        ensures counts { CountsBy result (O.channel_faults outbox.old) (O.channel_faults outbox.new) }
+        ensures links { IsOfLinks (O.link_faults outbox.old) (O.link_faults outbox.new) (O.calls outbox.old) (O.calls outbox.new) }
+        ensures no_break { IfErr result IsNoBreak }
+    {
+        let ip = asked.ip;
+        let port = outbox.bind(asked.link, ip).ok();
+        self.on_bound(port, outbox)
+    }
+
+    // Tells the worker the port of the link that it waits for.
+    fn on_bound<O: Outbox>(&mut self, port: Option<u16>, outbox: &mut O) -> Result<(), ServeFault>
+        ensures state { OnOk result (self.new.engine ≡ after_bound self.old.engine port) }
+        ensures sent { Tells (AddsBy (Goes result (map call_of (out_bound self.old.engine port)))) (O.calls outbox.old) (O.calls outbox.new) }
         ensures reader { self.new.reader ≡ self.old.reader }
         ensures counts { CountsBy result (O.channel_faults outbox.old) (O.channel_faults outbox.new) }
         ensures links { O.link_faults outbox.new ≡ O.link_faults outbox.old }
         ensures no_break { IfErr result IsNoBreak }
     {
         self.acts.clear();
-        if self.engine.on_payload(payload, &mut self.acts).is_err() {
+        if self.engine.on_bound(port, &mut self.acts).is_err() {
             return Err(ServeFault::NoMemory);
         }
         carry_out(self.alloc, self.acts.as_slice(), &mut self.frame, outbox)
-    }
-}
-
-// Carries the acts out, one after another.
-fn carry_out<O: Outbox>(
-    alloc: Global,
-    acts: &[Act],
-    frame: &mut Bytes,
-    outbox: &mut O,
-) -> Result<(), ServeFault>
-    requires { All IsSayable acts.now }
-    ensures sent { Tells (AddsBy (SentBy result (map act_call acts.now))) (O.calls outbox.old) (O.calls outbox.new) }
-    ensures counts { CountsBy result (O.channel_faults outbox.old) (O.channel_faults outbox.new) }
-    ensures links { O.link_faults outbox.new ≡ O.link_faults outbox.old }
-    ensures no_break { IfErr result IsNoBreak }
-{
-    for act in acts {
-        carry_out_one(alloc, act, frame, outbox)?;
-    }
-    Ok(())
-}
-
-// Carries an act out.
-fn carry_out_one<O: Outbox>(
-    alloc: Global,
-    act: &Act,
-    frame: &mut Bytes,
-    outbox: &mut O,
-) -> Result<(), ServeFault>
-    requires { IsSayable act.now }
-    ensures sent { Tells (AddsBy (SentBy result (act_call act.now ∷ []))) (O.calls outbox.old) (O.calls outbox.new) }
-    ensures counts { CountsBy result (O.channel_faults outbox.old) (O.channel_faults outbox.new) }
-    ensures links { O.link_faults outbox.new ≡ O.link_faults outbox.old }
-    ensures no_break { IfErr result IsNoBreak }
-{
-    match act {
-        Act::Say(payload) => say(alloc, payload.as_slice(), frame, outbox),
     }
 }
 

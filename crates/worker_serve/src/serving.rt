@@ -1,14 +1,13 @@
 ghost use Rattle.std.specs.Prelude.{◌≡◌, ◌∷◌, [], length, IfOk, IfErr};
 ghost use Rattle.channel_frames.specs.Reading.{unstarted};
-ghost use Rattle.ms_devices.specs.Outside.{event_of};
 ghost use Rattle.ms_devices.specs.Told.{Tells};
-ghost use Rattle.worker_engine.specs.Objects.{nothing_yet};
-ghost use Rattle.worker_engine.specs.Run.{running_payload, say};
-ghost use Rattle.worker_engine.specs.Laws.{SaidIsTheOutput};
-ghost use Rattle.worker_serve.specs.Hearing.{AreGivenBytes, FrameLaws};
-ghost use Rattle.worker_serve.specs.Sending.{AddsBy, CountsBy, IsNoBreak, SentBy};
+ghost use Rattle.worker_calls.specs.Requests.{notify};
+ghost use Rattle.worker_calls.specs.State.{idle};
+ghost use Rattle.worker_engine.specs.Outside.{call_of};
+ghost use Rattle.worker_requests.specs.declared.notice.WorkerNotice.TheVariants.{Running};
+ghost use Rattle.worker_serve.specs.Hearing.{FrameLaws};
+ghost use Rattle.worker_serve.specs.Sending.{AddsBy, CountsBy, Goes, IsNoBreak};
 ghost use Rattle.worker_serve.specs.ServeEnds.{IsServe};
-ghost use Rattle.worker_serve.specs.Serving.{call_of};
 
 use crate::fault::ServeFault;
 use crate::server::Server;
@@ -16,7 +15,6 @@ use channel_frames::{frames_of_a_cut_stream, frames_of_a_rest};
 use ms_base::NoMemory;
 use ms_devices::{EVENT_BYTES, InEvent, Inbox, Outbox};
 use std::alloc::Global;
-use worker_engine::said_is_the_output;
 
 /// Why serving has ended: each exactly where it says so, but that memory may run out at any time.
 #[derive(Clone, Copy, Debug, PartialEq, Eq)]
@@ -69,7 +67,6 @@ pub fn serve<I: Inbox, O: Outbox>(alloc: Global, inbox: &mut I, outbox: &mut O) 
         let Ok(event) = inbox.next(place) else {
             return ServeEnd::Read;
         };
-        given_are_bytes(event, place);
         if let Err(fault) = server.on_event(event, place, outbox) {
             return ServeEnd::from(fault);
         }
@@ -80,13 +77,10 @@ pub fn serve<I: Inbox, O: Outbox>(alloc: Global, inbox: &mut I, outbox: &mut O) 
     ServeEnd::NoMemory
 }
 
-// What an engine says is the output of a worker, and frames go on from what is left of a stream. The function does
-// nothing; its contract is the laws.
+// Frames go on from what is left of a stream. The function does nothing; its contract is the law.
 fn laws()
-    ensures output { SaidIsTheOutput }
-    ensures frames { FrameLaws }
+    ensures { FrameLaws }
 {
-    said_is_the_output();
     frames_of_a_cut_stream();
     frames_of_a_rest();
 }
@@ -98,16 +92,11 @@ fn zeroes(alloc: Global, count: usize) -> Result<Vec<u8>, NoMemory>
     Ok(vec![in alloc; 0u8; count]?)
 }
 
-// What an inbox gave is bytes. The function does nothing; its contract is the law.
-fn given_are_bytes(event: InEvent, place: &[u8])
-    ensures { AreGivenBytes (event_of event place.now) }
-{}
-
 // A worker that has said that it runs.
 fn started<O: Outbox>(alloc: Global, outbox: &mut O) -> Result<Server, ServeFault>
-    ensures engine { IfOk result (λ server. server.engine ≡ nothing_yet) }
+    ensures engine { IfOk result (λ server. server.engine ≡ idle) }
     ensures reader { IfOk result (λ server. server.reader ≡ unstarted) }
-    ensures sent { Tells (AddsBy (SentBy result (call_of (say running_payload) ∷ []))) (O.calls outbox.old) (O.calls outbox.new) }
+    ensures sent { Tells (AddsBy (Goes result (call_of (notify Running) ∷ []))) (O.calls outbox.old) (O.calls outbox.new) }
     ensures counts { CountsBy result (O.channel_faults outbox.old) (O.channel_faults outbox.new) }
     ensures links { O.link_faults outbox.new ≡ O.link_faults outbox.old }
     ensures no_break { IfErr result IsNoBreak }

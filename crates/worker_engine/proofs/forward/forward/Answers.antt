@@ -1,51 +1,76 @@
-use Rattle.std.proofs.Common.{◌≡◌, ℕ, ◌+◌, ◌++◌, List, true, false, length, map, take, drop, slice_set, slice_index_or, sym, subst, ap, ◌∙◌, arith}
-use Rattle.std.proofs.lemmas.List.{length-set}
-use Rattle.std.specs.Prelude.{IsSome}
-use Rattle.std.specs.Result.{is_err}
-use Rattle.worker_engine.specs.Objects.{Consumer}
-use Rattle.worker_engine.specs.Forwarding.{incoming_of, call_if, Made, payload_by, numbered_by, StopsAfter}
-use Rattle.worker_engine.proofs.Sends.{item-is, mapped-next, whole-list, calls-next, on-err, on-ok, stops, stops-as}
+use Rattle.std.proofs.Common.{◌≡◌, ℕ, ◌+◌, ◌<◌, ◌++◌, List, length, map, drop, sym, ap, subst, ◌∙◌, arith}
+use Rattle.std.proofs.lemmas.List.{append-nil}
+use Rattle.ms_base.specs.declared.id.Id.{Id}
+use Rattle.worker_calls.specs.Requests.{Outgoing}
+use Rattle.worker_calls.specs.State.{Worker}
+use Rattle.worker_engine.specs.Outside.{call_of, Made, StopsAtAFault}
+use Rattle.worker_engine.specs.Forwarding.{Incoming, targets, behind_one, behind_each, out_one, out_each, listed}
+use Rattle.worker_engine.proofs.Calls.{outs-then}
+use Rattle.worker_engine.proofs.Heard.{on-err-any}
+use Rattle.worker_engine.proofs.Steps.{targets-kept, left-state, next-outs, stops-here, place-in, end-state, end-outs}
 use Rattle.worker_engine.proofs.forward.forward.Goals as goal
+
+pub loop-consumer-smaller : goal.loop-consumer-smaller
+loop-consumer-smaller g c =
+    let i : Incoming = c.args.incoming.now in
+    let w : Worker = c.loop-consumer.worker in
+    let ts : List (Id × Id) = targets i c.args.worker.now in
+    let to : Id × Id = (c.in-Some.consumer, c.in-Some.transport) in
+    let kept : length (targets i c.send.new.worker) ≡ length (targets i w) = ap (λ (v : Worker). length (targets i v)) c.send.ensures.state ∙ ap length (targets-kept i to.0 w) in
+    let inside : c.loop-consumer.place < length (targets i w) = place-in i ts c.loop-consumer.place to w c.loop-consumer.invariant.same c.in-Some.ensures.value in
+    omega arith
 
 pub loop-consumer-preserved : goal.loop-consumer-preserved
 loop-consumer-preserved g c =
-    let xs : List Consumer = c.deref_mut-consumer-items.result.now in
-    let ys : List Consumer = c.loop-consumer.consumer-items in
-    let i : ℕ = c.loop-consumer.consumer-index in
-    let x : Consumer = slice_index_or ys i c.consumer-item.result in
-    let f = numbered_by (incoming_of c.args.incoming.now) in
-    let there : x ≡ slice_index_or ys i x = ap (λ (d : Consumer). slice_index_or ys i d) c.consumer-item.is in
-    let here : x ≡ slice_index_or xs i x = item-is f xs ys i x c.loop-consumer.invariant.state there in
-    let none : is_err c.send-sent.result ≡ false = sym c.is_err.ensures.value ∙ c.if-is_err.false in
+    let i : Incoming = c.args.incoming.now in
+    let w : Worker = c.loop-consumer.worker in
+    let place : ℕ = c.loop-consumer.place in
+    let ts : List (Id × Id) = targets i c.args.worker.now in
+    let to : Id × Id = (c.in-Some.consumer, c.in-Some.transport) in
+    let whole : List Outgoing = out_each i ts c.args.worker.now in
+    let state : c.send.new.worker ≡ behind_one i to.0 w = c.send.ensures.state in
     record {
-      served_is = omega arith;
-      state = mapped-next f xs ys i x c.send-sent.new.consumer c.loop-consumer-test.true c.loop-consumer.invariant.state there c.send-sent.ensures.state;
-      calls = calls-next (payload_by (incoming_of c.args.incoming.now)) xs i x (g.O.Outbox.calls c.args.outbox.now) (g.O.Outbox.calls c.loop-consumer.outbox) (g.O.Outbox.calls c.send-sent.new.outbox)
-          c.loop-consumer-test.true here c.loop-consumer.invariant.calls
-          (subst (λ b. Made (call_if b (payload_by (incoming_of c.args.incoming.now) x)) (g.O.Outbox.calls c.loop-consumer.outbox) (g.O.Outbox.calls c.send-sent.new.outbox)) none c.send-sent.ensures.calls);
-      channel = on-ok c.send-sent.result (g.O.Outbox.channel_faults c.send-sent.new.outbox ≡ g.O.Outbox.channel_faults c.loop-consumer.outbox) none c.send-sent.ensures.cause.still ∙ c.loop-consumer.invariant.channel;
-      links = c.send-sent.ensures.links ∙ c.loop-consumer.invariant.links;
+      same = ap (targets i) state ∙ (targets-kept i to.0 w ∙ c.loop-consumer.invariant.same);
+      state = ap (λ (v : Worker). behind_each i (drop (place + 1) ts) v) state
+          ∙ (left-state i ts place to w c.loop-consumer.invariant.same c.in-Some.ensures.value ∙ c.loop-consumer.invariant.state);
+      sent = c.loop-consumer.invariant.sent ++ listed (out_one i to w);
+      outs = ap (λ (v : Worker). (c.loop-consumer.invariant.sent ++ listed (out_one i to w)) ++ out_each i (drop (place + 1) ts) v) state
+          ∙ next-outs i ts place to w c.loop-consumer.invariant.same c.in-Some.ensures.value c.loop-consumer.invariant.sent whole c.loop-consumer.invariant.outs;
+      made = outs-then c.loop-consumer.invariant.sent (listed (out_one i to w))
+          (g.O.Outbox.link_faults c.args.outbox.now) (g.O.Outbox.link_faults c.loop-consumer.outbox) (g.O.Outbox.link_faults c.send.new.outbox)
+          (g.O.Outbox.calls c.args.outbox.now) (g.O.Outbox.calls c.loop-consumer.outbox) (g.O.Outbox.calls c.send.new.outbox)
+          c.loop-consumer.invariant.made c.in_ok-send.ensures.told;
+      channel = c.in_ok-send.ensures.cause.still ∙ c.loop-consumer.invariant.channel;
+      links = omega (arith, c.send.ensures.links);
     }
 
-pub returns-then-is_err-clause-err : goal.returns-then-is_err-clause-err
-returns-then-is_err-clause-err g c =
-    let xs : List Consumer = c.deref_mut-consumer-items.result.now in
-    let ys : List Consumer = c.loop-consumer.consumer-items in
-    let i : ℕ = c.loop-consumer.consumer-index in
-    let x : Consumer = slice_index_or ys i c.consumer-item.result in
-    let f = numbered_by (incoming_of c.args.incoming.now) in
-    let pay = payload_by (incoming_of c.args.incoming.now) in
-    let there : x ≡ slice_index_or ys i x = ap (λ (d : Consumer). slice_index_or ys i d) c.consumer-item.is in
-    let here : x ≡ slice_index_or xs i x = item-is f xs ys i x c.loop-consumer.invariant.state there in
-    let failed : is_err c.send-sent.result ≡ true = sym c.is_err.ensures.value ∙ c.if-is_err.true in
-    let zs : List Consumer = slice_set ys i c.send-sent.new.consumer in
-    let state : zs ≡ map f (take (i + 1) xs) ++ drop (i + 1) xs =
-    mapped-next f xs ys i x c.send-sent.new.consumer c.loop-consumer-test.true c.loop-consumer.invariant.state there c.send-sent.ensures.state in
-    let stop : StopsAfter (incoming_of c.args.incoming.now) (i + 1) xs zs (g.O.Outbox.calls c.args.outbox.now) (g.O.Outbox.calls c.send-sent.new.outbox) =
-    stops (incoming_of c.args.incoming.now) xs zs i x (g.O.Outbox.calls c.args.outbox.now) (g.O.Outbox.calls c.loop-consumer.outbox) (g.O.Outbox.calls c.send-sent.new.outbox)
-    c.loop-consumer-test.true here state (on-err c.send-sent.result (IsSome (pay x)) failed c.send-sent.ensures.sends) c.loop-consumer.invariant.calls
-    (subst (λ b. Made (call_if b (pay x)) (g.O.Outbox.calls c.loop-consumer.outbox) (g.O.Outbox.calls c.send-sent.new.outbox)) failed c.send-sent.ensures.calls) in
-    let size : length zs ≡ c.args.consumers.now.len = omega (arith, length-set ys i c.send-sent.new.consumer, c.args.consumers.now.ok.0) in
-    stops-as (incoming_of c.args.incoming.now) (i + 1) (c.loop-consumer.served + 1) xs c.args.consumers.now.items zs
-    (take c.args.consumers.now.len (zs ++ drop (length zs) c.args.consumers.now.items)) (g.O.Outbox.calls c.args.outbox.now) (g.O.Outbox.calls c.send-sent.new.outbox)
-    (omega arith) c.deref_mut-consumer-items.ensures.value (sym (whole-list c.args.consumers.now.len zs c.args.consumers.now.items size (omega (arith, c.args.consumers.now.ok.0)))) stop
+pub returns-in_err-send-clause-err : goal.returns-in_err-send-clause-err
+returns-in_err-send-clause-err g c =
+    let i : Incoming = c.args.incoming.now in
+    let w : Worker = c.loop-consumer.worker in
+    let ts : List (Id × Id) = targets i c.args.worker.now in
+    let to : Id × Id = (c.in-Some.consumer, c.in-Some.transport) in
+    let whole : List Outgoing = out_each i ts c.args.worker.now in
+    on-err-any c.from_residual.result
+    (StopsAtAFault whole (g.O.Outbox.link_faults c.args.outbox.now) (g.O.Outbox.link_faults c.send.new.outbox) (g.O.Outbox.calls c.args.outbox.now) (g.O.Outbox.calls c.send.new.outbox))
+    (stops-here i ts c.loop-consumer.place to w c.loop-consumer.invariant.same c.in-Some.ensures.value c.loop-consumer.invariant.sent whole
+    (g.O.Outbox.link_faults c.args.outbox.now) (g.O.Outbox.link_faults c.loop-consumer.outbox) (g.O.Outbox.link_faults c.send.new.outbox)
+    (g.O.Outbox.calls c.args.outbox.now) (g.O.Outbox.calls c.loop-consumer.outbox) (g.O.Outbox.calls c.send.new.outbox)
+    c.loop-consumer.invariant.outs c.loop-consumer.invariant.made c.in_err-send.ensures.err)
+
+pub returns-clause-state : goal.returns-clause-state
+returns-clause-state g c =
+    let i : Incoming = c.args.incoming.now in
+    let ts : List (Id × Id) = targets i c.args.worker.now in
+    sym (end-state i ts c.loop-consumer.place c.loop-consumer.worker c.loop-consumer.invariant.same c.in_default.ensures.value) ∙ c.loop-consumer.invariant.state
+
+pub returns-clause-told : goal.returns-clause-told
+returns-clause-told g c =
+    let i : Incoming = c.args.incoming.now in
+    let ts : List (Id × Id) = targets i c.args.worker.now in
+    let whole : List Outgoing = out_each i ts c.args.worker.now in
+    let all : c.loop-consumer.invariant.sent ≡ whole =
+    sym (append-nil c.loop-consumer.invariant.sent)
+    ∙ end-outs i ts c.loop-consumer.place c.loop-consumer.worker c.loop-consumer.invariant.same c.in_default.ensures.value c.loop-consumer.invariant.sent whole c.loop-consumer.invariant.outs in
+    subst (λ (t : List Outgoing). Made (map call_of t) (g.O.Outbox.link_faults c.args.outbox.now) (g.O.Outbox.link_faults c.loop-consumer.outbox)
+    (g.O.Outbox.calls c.args.outbox.now) (g.O.Outbox.calls c.loop-consumer.outbox)) all c.loop-consumer.invariant.made

@@ -1,14 +1,20 @@
-use Rattle.std.proofs.Common.{◌≡◌, ◌++◌, map, take, drop}
-use Rattle.std.specs.List.{filter_map}
-use Rattle.worker_engine.specs.Forwarding.{incoming_of, Made, calls_of, payload_by, numbered_by}
+use Rattle.std.proofs.Common.{◌≡◌, ◌≤◌, ◌-◌, List, ◌++◌, length, map, drop}
+use Rattle.worker_calls.specs.Requests.{Outgoing}
+use Rattle.worker_engine.specs.Outside.{call_of, Made}
+use Rattle.worker_engine.specs.Forwarding.{targets, behind_each, out_each}
 use Rattle.worker_engine.proofs.forward.forward.Given as goal
 
--- the Consumers so far have numbered the packet, what they pass on was sent, and no call failed
+-- the Consumers up to a place are served: what is left behind what was done comes to the whole
 abbrev pub invariant-loop-consumer : goal.invariant-loop-consumer
 invariant-loop-consumer g l = record {
-  served_is : l.served ≡ l.consumer-index;
-  state : l.consumer-items ≡ map (numbered_by (incoming_of l.incoming)) (take l.consumer-index l.initial.consumer-items) ++ drop l.consumer-index l.initial.consumer-items;
-  calls : Made (calls_of (filter_map (payload_by (incoming_of l.incoming)) (take l.consumer-index l.initial.consumer-items))) (g.O.Outbox.calls l.initial.outbox) (g.O.Outbox.calls l.outbox);
+  same : targets l.incoming l.worker ≡ targets l.incoming l.initial.worker;
+  state : behind_each l.incoming (drop l.place (targets l.incoming l.initial.worker)) l.worker ≡ behind_each l.incoming (targets l.incoming l.initial.worker) l.initial.worker;
+  sent : List Outgoing;
+  outs : sent ++ out_each l.incoming (drop l.place (targets l.incoming l.initial.worker)) l.worker ≡ out_each l.incoming (targets l.incoming l.initial.worker) l.initial.worker;
+  made : Made (map call_of sent) (g.O.Outbox.link_faults l.initial.outbox) (g.O.Outbox.link_faults l.outbox) (g.O.Outbox.calls l.initial.outbox) (g.O.Outbox.calls l.outbox);
   channel : g.O.Outbox.channel_faults l.outbox ≡ g.O.Outbox.channel_faults l.initial.outbox;
-  links : g.O.Outbox.link_faults l.outbox ≡ g.O.Outbox.link_faults l.initial.outbox;
+  links : g.O.Outbox.link_faults l.initial.outbox ≤ g.O.Outbox.link_faults l.outbox;
 }
+
+abbrev pub decreases-loop-consumer : goal.decreases-loop-consumer
+decreases-loop-consumer g l = length (targets l.incoming l.worker) - l.place

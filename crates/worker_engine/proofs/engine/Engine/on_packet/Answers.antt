@@ -1,81 +1,52 @@
-use Rattle.std.proofs.Common.{◌≡◌, ℕ, List, Some, None, OnOk, OnErr, sym, subst, ap, ◌∙◌}
+use Rattle.std.proofs.Common.{◌≡◌, ℕ, List, Some, map, sym, ap, subst, ◌∙◌}
+use Rattle.std.specs.Prelude.{OnOk, OnErr}
 use Rattle.rtp_packet.specs.Packet.{Fields}
-use Rattle.rtp_packet.specs.Reading.{fields_of}
-use Rattle.worker_engine.specs.Objects.{Worker, ProducerKey, Router, direct_key}
-use Rattle.worker_engine.specs.Packets.{served_fields, received}
-use Rattle.worker_engine.specs.Run.{after_heard, said_of, with_any_received, received_payloads}
-use Rattle.worker_engine.specs.Forwarding.{Made, calls_of, forwarded_at, payloads_at, heard_from, StopsAtAFault}
-use Rattle.worker_engine.proofs.Lends.{made-none, on-ok-map, no-key, not-served, worker-forwarded, worker-payloads}
+use Rattle.worker_calls.specs.State.{Worker}
+use Rattle.worker_calls.specs.Requests.{Outgoing}
+use Rattle.worker_engine.specs.Outside.{call_of, Made, StopsAtAFault}
+use Rattle.worker_engine.specs.declared.act.PacketFrom.{PacketFrom}
+use Rattle.worker_engine.specs.Packets.{parsed, after_received, emissions_of}
+use Rattle.worker_engine.specs.Forwarding.{after_from, out_by}
+use Rattle.worker_engine.proofs.Calls.{made-none}
+use Rattle.worker_engine.proofs.Heard.{not-parsed, is-parsed, dropped-state, dropped-outs, direct-is}
 use Rattle.worker_engine.proofs.engine.Engine.on_packet.Goals as goal
 
-pub returns-in_default-earliest-clause-ok : goal.returns-in_default-earliest-clause-ok
-returns-in_default-earliest-clause-ok g c =
-    let w : Worker = c.args.self.now in
-    let none : received w c.in-Direct.id c.args.packet.now ≡ None =
-    no-key w c.in-Direct.id c.args.packet.now (sym (ap (λ (v : Worker). direct_key v c.in-Direct.id) c.self.view_is) ∙ sym c.in_default-earliest.ensures) in
-    sym (ap (λ f. after_heard w (heard_from f c.args.packet.now)) c.in-Direct.is ∙ ap (with_any_received w) none)
+pub returns-in_default-clause-state : goal.returns-in_default-clause-state
+returns-in_default-clause-state g c =
+    dropped-state c.args.self.now c.args.from c.args.packet.now (not-parsed c.args.packet.now c.in_default.field-0 c.in_default.ensures.fault)
 
-pub returns-in_default-earliest-clause-told : goal.returns-in_default-earliest-clause-told
-returns-in_default-earliest-clause-told g c =
-    let w : Worker = c.args.self.now in
-    let none : received w c.in-Direct.id c.args.packet.now ≡ None =
-    no-key w c.in-Direct.id c.args.packet.now (sym (ap (λ (v : Worker). direct_key v c.in-Direct.id) c.self.view_is) ∙ sym c.in_default-earliest.ensures) in
-    subst (λ (ps : List (List ℕ)). Made (calls_of ps) (g.O.Outbox.calls c.args.outbox.now) (g.O.Outbox.calls c.args.outbox.now))
-    (sym (ap (λ f. said_of w (heard_from f c.args.packet.now)) c.in-Direct.is ∙ ap received_payloads none)) (made-none (g.O.Outbox.calls c.args.outbox.now))
+pub returns-in_default-clause-told : goal.returns-in_default-clause-told
+returns-in_default-clause-told g c =
+    subst (λ (t : List Outgoing). Made (map call_of t) (g.O.Outbox.link_faults c.args.outbox.now) (g.O.Outbox.link_faults c.args.outbox.now) (g.O.Outbox.calls c.args.outbox.now) (g.O.Outbox.calls c.args.outbox.now))
+    (sym (dropped-outs c.args.self.now c.args.from c.args.packet.now (not-parsed c.args.packet.now c.in_default.field-0 c.in_default.ensures.fault)))
+    (made-none (g.O.Outbox.link_faults c.args.outbox.now) (g.O.Outbox.calls c.args.outbox.now))
 
-pub returns-in_default-served-clause-ok : goal.returns-in_default-served-clause-ok
-returns-in_default-served-clause-ok g c =
-    let w : Worker = c.args.self.now in
-    let none : received w c.in-Direct.id c.args.packet.now ≡ None = not-served w c.in-Direct.id c.args.packet.now (sym c.in_default-served.ensures.fields) in
-    sym (ap (λ f. after_heard w (heard_from f c.args.packet.now)) c.in-Direct.is ∙ ap (with_any_received w) none)
-
-pub returns-in_default-served-clause-told : goal.returns-in_default-served-clause-told
-returns-in_default-served-clause-told g c =
-    let w : Worker = c.args.self.now in
-    let none : received w c.in-Direct.id c.args.packet.now ≡ None = not-served w c.in-Direct.id c.args.packet.now (sym c.in_default-served.ensures.fields) in
-    subst (λ (ps : List (List ℕ)). Made (calls_of ps) (g.O.Outbox.calls c.args.outbox.now) (g.O.Outbox.calls c.args.outbox.now))
-    (sym (ap (λ f. said_of w (heard_from f c.args.packet.now)) c.in-Direct.is ∙ ap received_payloads none)) (made-none (g.O.Outbox.calls c.args.outbox.now))
-
-pub returns-clause-ok : goal.returns-clause-ok
-returns-clause-ok g c =
+pub returns-in-Direct-clause-state : goal.returns-in-Direct-clause-state
+returns-in-Direct-clause-state g c =
     let w : Worker = c.args.self.now in
     let packet : List ℕ = c.args.packet.now in
-    let key : ProducerKey = record { router = c.key.inside.router; producer = c.key.inside.producer } in
-    let earliest : direct_key w c.in-Direct.id ≡ Some key =
-    sym (ap (λ (v : Worker). direct_key v c.in-Direct.id) c.self.view_is) ∙ (sym c.in-Some.ensures ∙ ap Some (sym c.key.view_is)) in
-    let served : served_fields packet ≡ Some (fields_of packet) = sym c.in-Some-served.ensures.fields ∙ ap Some c.in-Some-served.ensures.view in
-    on-ok-map (c.forward.new.self ≡ forwarded_at c.in-Some-served.view key c.self.inside.routers) _ c.forward.result
-    (λ (e : c.forward.new.self ≡ forwarded_at c.in-Some-served.view key c.self.inside.routers).
-    ap (λ (rs : List Router). record { routers = rs; directs = c.self.inside.directs.keys })
-    (e ∙ ap (λ (f : Fields). forwarded_at f key c.self.inside.routers) c.in-Some-served.ensures.view)
-    ∙ (ap (λ (v : Worker). record v { routers = forwarded_at (fields_of packet) key v.routers }) c.self.view_is
-    ∙ (sym (worker-forwarded w c.in-Direct.id packet key earliest served) ∙ sym (ap (λ f. after_heard w (heard_from f packet)) c.in-Direct.is))))
-    c.forward.ensures.ok
+    let f : Fields = c.in-Ok.view in
+    let reads : parsed packet ≡ Some f = is-parsed packet c.in-Ok.ensures.fault ∙ ap Some (sym c.in-Ok.ensures.places) in
+    subst (λ (v : Worker). OnOk c.on_direct.result (c.on_direct.new.self ≡ v))
+    (ap (after_received w) (sym (direct-is w c.in-Direct.id packet f reads)) ∙ sym (ap (λ (s : PacketFrom). after_from w s packet) c.in-Direct.is))
+    c.on_direct.ensures.state
 
-pub returns-clause-told : goal.returns-clause-told
-returns-clause-told g c =
+pub returns-in-Direct-clause-told : goal.returns-in-Direct-clause-told
+returns-in-Direct-clause-told g c =
     let w : Worker = c.args.self.now in
     let packet : List ℕ = c.args.packet.now in
-    let key : ProducerKey = record { router = c.key.inside.router; producer = c.key.inside.producer } in
-    let earliest : direct_key w c.in-Direct.id ≡ Some key =
-    sym (ap (λ (v : Worker). direct_key v c.in-Direct.id) c.self.view_is) ∙ (sym c.in-Some.ensures ∙ ap Some (sym c.key.view_is)) in
-    let served : served_fields packet ≡ Some (fields_of packet) = sym c.in-Some-served.ensures.fields ∙ ap Some c.in-Some-served.ensures.view in
-    subst (λ (ps : List (List ℕ)). OnOk c.forward.result (Made (calls_of ps) (g.O.Outbox.calls c.args.outbox.now) (g.O.Outbox.calls c.forward.new.outbox)))
-    (ap (λ (f : Fields). payloads_at f key c.self.inside.routers) c.in-Some-served.ensures.view
-    ∙ (ap (λ (v : Worker). payloads_at (fields_of packet) key v.routers) c.self.view_is
-    ∙ (sym (worker-payloads w c.in-Direct.id packet key earliest served) ∙ sym (ap (λ f. said_of w (heard_from f packet)) c.in-Direct.is))))
-    c.forward.ensures.calls
+    let f : Fields = c.in-Ok.view in
+    let reads : parsed packet ≡ Some f = is-parsed packet c.in-Ok.ensures.fault ∙ ap Some (sym c.in-Ok.ensures.places) in
+    subst (λ (t : List Outgoing). OnOk c.on_direct.result (Made (map call_of t) (g.O.Outbox.link_faults c.args.outbox.now) (g.O.Outbox.link_faults c.on_direct.new.outbox) (g.O.Outbox.calls c.args.outbox.now) (g.O.Outbox.calls c.on_direct.new.outbox)))
+    (ap (emissions_of w) (sym (direct-is w c.in-Direct.id packet f reads)) ∙ sym (ap (λ (s : PacketFrom). out_by w s packet) c.in-Direct.is))
+    c.on_direct.ensures.told
 
-pub returns-clause-err : goal.returns-clause-err
-returns-clause-err g c =
+pub returns-in-Direct-clause-err : goal.returns-in-Direct-clause-err
+returns-in-Direct-clause-err g c =
     let w : Worker = c.args.self.now in
     let packet : List ℕ = c.args.packet.now in
-    let key : ProducerKey = record { router = c.key.inside.router; producer = c.key.inside.producer } in
-    let earliest : direct_key w c.in-Direct.id ≡ Some key =
-    sym (ap (λ (v : Worker). direct_key v c.in-Direct.id) c.self.view_is) ∙ (sym c.in-Some.ensures ∙ ap Some (sym c.key.view_is)) in
-    let served : served_fields packet ≡ Some (fields_of packet) = sym c.in-Some-served.ensures.fields ∙ ap Some c.in-Some-served.ensures.view in
-    subst (λ (ps : List (List ℕ)). OnErr c.forward.result (StopsAtAFault ps (g.O.Outbox.calls c.args.outbox.now) (g.O.Outbox.calls c.forward.new.outbox)))
-    (ap (λ (f : Fields). payloads_at f key c.self.inside.routers) c.in-Some-served.ensures.view
-    ∙ (ap (λ (v : Worker). payloads_at (fields_of packet) key v.routers) c.self.view_is
-    ∙ (sym (worker-payloads w c.in-Direct.id packet key earliest served) ∙ sym (ap (λ f. said_of w (heard_from f packet)) c.in-Direct.is))))
-    c.forward.ensures.err
+    let f : Fields = c.in-Ok.view in
+    let reads : parsed packet ≡ Some f = is-parsed packet c.in-Ok.ensures.fault ∙ ap Some (sym c.in-Ok.ensures.places) in
+    subst (λ (t : List Outgoing). OnErr c.on_direct.result (StopsAtAFault t (g.O.Outbox.link_faults c.args.outbox.now) (g.O.Outbox.link_faults c.on_direct.new.outbox) (g.O.Outbox.calls c.args.outbox.now) (g.O.Outbox.calls c.on_direct.new.outbox)))
+    (ap (emissions_of w) (sym (direct-is w c.in-Direct.id packet f reads)) ∙ sym (ap (λ (s : PacketFrom). out_by w s packet) c.in-Direct.is))
+    c.on_direct.ensures.err

@@ -1,12 +1,7 @@
-use Rattle.std.proofs.Common.{ap, subst}
-use Rattle.channel_msgs.specs.Read.{request_of}
-use Rattle.ms_devices.specs.Told.{Tells}
-use Rattle.worker_engine.specs.Run.{Heard, packet_or_else, request_or_nothing}
-use Rattle.worker_serve.specs.Sending.{AddsBy, SentBy, calls_as_heard}
+use Rattle.worker_serve.proofs.PayloadLemmas.{direct_served}
 use Rattle.worker_serve.proofs.server.Server.on_payload.Goals as goal
 
-pub returns-in-None-clause-sent : goal.returns-in-None-clause-sent
-returns-in-None-clause-sent g c =
-    subst (λ (h : Heard). Tells (AddsBy (SentBy c.on_request.result (calls_as_heard c.args.self.now.engine h))) (g.O.Outbox.calls c.args.outbox.now) (g.O.Outbox.calls c.on_request.new.outbox))
-    (ap (λ p. packet_or_else p (request_or_nothing (request_of c.args.payload.now))) c.in-None.ensures)
-    c.on_request.ensures.sent
+pub returns-in-Some-clause-sent : goal.returns-in-Some-clause-sent
+returns-in-Some-clause-sent g c =
+    direct_served c.on_packet.result c.args.self.now.engine c.on_packet.new.self.engine c.args.bytes.now c.in-Some.id c.in-Some.packet.now
+    (g.O.Outbox.calls c.args.outbox.now) (g.O.Outbox.calls c.on_packet.new.outbox) c.in-Some.ensures c.on_packet.ensures.state c.on_packet.ensures.sent

@@ -1,7 +1,0 @@
-use Rattle.std.proofs.Common.{ap, ◌∙◌, find}
-use Rattle.worker_engine.specs.Objects.{same_id}
-use Rattle.worker_engine.specs.Tables.{DirectsView}
-use Rattle.worker_engine.proofs.directs.Directs.earliest.Goals as goal
-
-pub returns : goal.returns
-returns c = c.copied.ensures ∙ (c.get.ensures.value ∙ (c.self.invariant c.args.id ∙ ap (λ (v : DirectsView). find (λ key. same_id key.producer c.args.id) v.keys) c.self.view_is))
