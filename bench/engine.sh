@@ -5,7 +5,8 @@
 # Usage: bench/engine.sh [REPEATS]. REPEATS is 3 by default; the best of them counts. It prints nanoseconds for each packet out.
 . "$(dirname "$0")/scaffold.sh"
 needs rt clang rustc python3
-take seq_manager rtp_packet rtp_extension ms_base ms_devices channel_frames channel_msgs rtp_params worker_engine
+take seq_manager keyframes rtp_packet rtp_extension ms_base ms_devices channel_frames channel_msgs rtp_params plain_transport \
+    inner_transports producer simple_consumer pipe_consumer worker_requests worker_router worker_calls worker_engine
 caller engine 'engine_bench: ms_base ms_devices worker_engine anyhow'
 rm "$work/crates/engine_bench/"*.c "$work/crates/engine_bench/"*.rs "$work/crates/engine_bench/"*.py
 built engine_bench run </dev/null
