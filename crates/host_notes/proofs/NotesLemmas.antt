@@ -9,6 +9,7 @@ use Rattle.std.proofs.lemmas.Bool.{cases_Bool}
 use Rattle.std.proofs.lemmas.List.{append-nil}
 use Rattle.std.proofs.lemmas.List.Concat.{flat_map-append}
 use Rattle.std.proofs.lemmas.Bool.Decides.{nat_tests}
+use Rattle.ms_base.specs.declared.id.Id.{Id}
 use Rattle.ms_base.specs.declared.keys.CallKey.{CallKey}
 use Rattle.ms_base.specs.declared.outcome.Outcome.{Outcome}
 use Rattle.ms_base.specs.declared.outcome.Verdict.{Verdict}
@@ -18,7 +19,7 @@ use Rattle.ms_base.specs.declared.keys.WorkerKey.{WorkerKey}
 use Rattle.host_notes.specs.Indexes.{AreIndexed, IsPlaceOf, bytes_to, place_of, verdict_at}
 use Rattle.channel_frames.specs.Frames.{frame}
 use Rattle.host_notes.specs.Verdicts.{first_of_two, settled_in, verdict_in}
-use Rattle.host_notes.specs.Sent.{payload_to, sent_of}
+use Rattle.host_notes.specs.Sent.{frame_to, sent_in, sent_of}
 use Rattle.host_notes.specs.Keys.{same_call}
 use Rattle.host_notes.specs.Keys.{same_worker}
 use Rattle.host_notes.specs.declared.sent.SentBytes.{SentBytes}
@@ -214,46 +215,49 @@ is_place-take notes n key (Some i) before = record { verdict = take-at notes n i
 
 -- ---- the bytes that went to a worker
 
-sent-more : (notes : List Note) (next : Note) (worker : WorkerKey) → sent_of (notes ++ next ∷ []) worker ≡ sent_of notes worker ++ payload_to worker next
-sent-more notes next worker = flat_map-append (payload_to worker) notes (next ∷ []) ∙ ap (λ b. sent_of notes worker ++ b) (append-nil (payload_to worker next))
+sent-more : (notes : List Note) (next : Note) (worker : WorkerKey) → sent_of (notes ++ next ∷ []) worker ≡ sent_of notes worker ++ frame_to worker (sent_in next)
+sent-more notes next worker =
+    flat_map-append (λ n. frame_to worker (sent_in n)) notes (next ∷ []) ∙ ap (λ b. sent_of notes worker ++ b) (append-nil (frame_to worker (sent_in next)))
 
-not-to : (next : Note) (worker : WorkerKey) → ((to : WorkerKey) (payload : List ℕ) → next ≡ note.Sent to payload → ⊥) → payload_to worker next ≡ []
-not-to (note.Sent to payload) worker h = absurd (h to payload refl)
-not-to other worker h = refl
+pub sends-nothing : (next : Note) → ((to : WorkerKey) (payload : List ℕ) → next ≡ note.Sent to payload → ⊥)
+    → ((to : WorkerKey) (id : Id) (packet : List ℕ) → next ≡ note.SentRtp to id packet → ⊥) → sent_in next ≡ None
+sends-nothing (note.Sent to payload) h g = absurd (h to payload refl)
+sends-nothing (note.SentRtp to id packet) h g = absurd (g to id packet refl)
+sends-nothing other h g = refl
 
-sent-silent : (notes : List Note) (next : Note) (worker : WorkerKey) → ((to : WorkerKey) (payload : List ℕ) → next ≡ note.Sent to payload → ⊥)
-    → sent_of (notes ++ next ∷ []) worker ≡ sent_of notes worker
+sent-silent : (notes : List Note) (next : Note) (worker : WorkerKey) → sent_in next ≡ None → sent_of (notes ++ next ∷ []) worker ≡ sent_of notes worker
 sent-silent notes next worker h =
-    sent-more notes next worker ∙ (ap (λ b. sent_of notes worker ++ b) (not-to next worker h) ∙ append-nil (sent_of notes worker))
+    sent-more notes next worker ∙ (ap (λ s. sent_of notes worker ++ frame_to worker s) h ∙ append-nil (sent_of notes worker))
 
 picked-bytes : (b : Bool) (xs ys : List ℕ) → cond b (xs ++ ys) xs ≡ xs ++ cond b ys []
 picked-bytes true xs ys = refl
 picked-bytes false xs ys = sym (append-nil xs)
 
 -- the frame is added to the bytes of its worker
-sent-framed : (notes : List Note) (to worker : WorkerKey) (payload : List ℕ)
-    → sent_of (notes ++ note.Sent to payload ∷ []) worker ≡ cond (same_worker to worker) (sent_of notes worker ++ frame payload) (sent_of notes worker)
-sent-framed notes to worker payload =
-    sent-more notes (note.Sent to payload) worker ∙ sym (picked-bytes (same_worker to worker) (sent_of notes worker) (frame payload))
+sent-framed : (notes : List Note) (next : Note) (to worker : WorkerKey) (payload : List ℕ) → sent_in next ≡ Some (to, payload)
+    → sent_of (notes ++ next ∷ []) worker ≡ cond (same_worker to worker) (sent_of notes worker ++ frame payload) (sent_of notes worker)
+sent-framed notes next to worker payload is =
+    sent-more notes next worker
+    ∙ (ap (λ s. sent_of notes worker ++ frame_to worker s) is ∙ sym (picked-bytes (same_worker to worker) (sent_of notes worker) (frame payload)))
 
 -- ---- the indexes with one more note
 
-says-none : (next : Note) (to : WorkerKey) (payload : List ℕ) → next ≡ note.Sent to payload → (call : CallKey) (outcome : Outcome) → next ≡ note.Settled call outcome → ⊥
-says-none next to payload is call outcome other = let clash : note.Sent to payload ≡ note.Settled call outcome = sym is ∙ other in cc
+settles-none : (next : Note) (sent : WorkerKey × List ℕ) → sent_in next ≡ Some sent → (call : CallKey) (outcome : Outcome) → next ≡ note.Settled call outcome → ⊥
+settles-none next sent is call outcome other = let clash : None ≡ Some sent = sym (ap sent_in other) ∙ is in cc
 
 pub indexed-sent : (notes : List Note) (next : Note) (places : BTreeMap (ℕ × ℕ) ℕ) (sent sent' : SentBytes) (to : WorkerKey) (payload : List ℕ)
-    → next ≡ note.Sent to payload → AreIndexed notes places sent
+    → sent_in next ≡ Some (to, payload) → AreIndexed notes places sent
     → ((w : WorkerKey) → bytes_to sent' w ≡ cond (same_worker to w) (bytes_to sent w ++ frame payload) (bytes_to sent w)) → AreIndexed (notes ++ next ∷ []) places sent'
 indexed-sent notes next places sent sent' to payload is indexed grown = record {
-  settled = is_place-none notes next places (says-none next to payload is) indexed.settled;
+  settled = is_place-none notes next places (settles-none next (to, payload) is) indexed.settled;
   bytes = λ w.
       grown w
       ∙ (ap (λ b. cond (same_worker to w) (b ++ frame payload) b) (indexed.bytes w)
-      ∙ (sym (sent-framed notes to w payload) ∙ ap (λ n. sent_of (notes ++ n ∷ []) w) (sym is)));
+      ∙ sym (sent-framed notes next to w payload is));
 }
 
 pub indexed-placed : (notes : List Note) (next : Note) (places places' : BTreeMap (ℕ × ℕ) ℕ) (sent : SentBytes)
-    → ((to : WorkerKey) (payload : List ℕ) → next ≡ note.Sent to payload → ⊥) → AreIndexed notes places sent
+    → sent_in next ≡ None → AreIndexed notes places sent
     → ((key : CallKey) → IsPlaceOf (notes ++ next ∷ []) key (place_of places' key)) → AreIndexed (notes ++ next ∷ []) places' sent
 indexed-placed notes next places places' sent h indexed placed =
     record { settled = placed; bytes = λ w. indexed.bytes w ∙ sym (sent-silent notes next w h) }
@@ -266,21 +270,22 @@ cut-at true xs ys zs n e is =
     ap (λ k. take k zs) size ∙ (ap (take (length xs)) e ∙ take-append_seam xs ys)
 cut-at false xs ys zs n e is = e
 
-pub indexed-cut : (notes front : List Note) (places : BTreeMap (ℕ × ℕ) ℕ) (sent sent' : SentBytes) (to : WorkerKey) (payload : List ℕ) (count : ℕ)
-    → notes ≡ front ++ note.Sent to payload ∷ [] → count ≡ 4 + length payload → AreIndexed notes places sent
+pub indexed-cut : (notes front : List Note) (next : Note) (places : BTreeMap (ℕ × ℕ) ℕ) (sent sent' : SentBytes) (to : WorkerKey) (payload : List ℕ) (count : ℕ)
+    → notes ≡ front ++ next ∷ [] → sent_in next ≡ Some (to, payload) → count ≡ 4 + length payload → AreIndexed notes places sent
     → ((w : WorkerKey) → bytes_to sent' w ≡ cond (same_worker to w) (take (length (bytes_to sent w) - count) (bytes_to sent w)) (bytes_to sent w)) → AreIndexed front places sent'
-indexed-cut notes front places sent sent' to payload count is size indexed cut = record {
+indexed-cut notes front next places sent sent' to payload count is sends size indexed cut = record {
   settled = λ key.
-      subst (λ ns. IsPlaceOf ns key (place_of places key)) (ap (take (length front)) is ∙ take-append_seam front (note.Sent to payload ∷ []))
+      subst (λ ns. IsPlaceOf ns key (place_of places key)) (ap (take (length front)) is ∙ take-append_seam front (next ∷ []))
       (is_place-take notes (length front) key (place_of places key) (indexed.settled key));
   bytes = λ w.
       cut w
-      ∙ cut-at (same_worker to w) (sent_of front w) (frame payload) (bytes_to sent w) count (indexed.bytes w ∙ (ap (λ ns. sent_of ns w) is ∙ sent-framed front to w payload))
+      ∙ cut-at (same_worker to w) (sent_of front w) (frame payload) (bytes_to sent w) count
+      (indexed.bytes w ∙ (ap (λ ns. sent_of ns w) is ∙ sent-framed front next to w payload sends))
       (omega (arith, size));
 }
 
 pub indexed-popped : (notes front : List Note) (next : Note) (places : BTreeMap (ℕ × ℕ) ℕ) (sent : SentBytes) → notes ≡ front ++ next ∷ []
-    → ((to : WorkerKey) (payload : List ℕ) → next ≡ note.Sent to payload → ⊥) → AreIndexed notes places sent → AreIndexed front places sent
+    → sent_in next ≡ None → AreIndexed notes places sent → AreIndexed front places sent
 indexed-popped notes front next places sent is h indexed = record {
   settled = λ key.
       subst (λ ns. IsPlaceOf ns key (place_of places key)) (ap (take (length front)) is ∙ take-append_seam front (next ∷ []))

@@ -1,20 +1,18 @@
 ghost use Rattle.std.specs.Prelude.{◌≡◌, ◌-◌, List, [], ◌∷◌, ◌++◌, length, take, OnOk, OnErr};
-ghost use Rattle.host_notes.specs.Sent.{IsShort};
+ghost use Rattle.channel_msgs.specs.Packet.{packet_head};
 ghost use Rattle.host_notes.specs.Indexes.{AreIndexed, IsPlaceOf, place_of, verdict_at};
 ghost use Rattle.host_notes.specs.Verdicts.{settled_in, verdict_in};
-ghost use Rattle.host_notes.specs.Sent.{sent_of};
+ghost use Rattle.host_notes.specs.Sent.{IsShort, sent_of};
 ghost use Rattle.ms_base.specs.declared.keys.CallKey.{CallKey};
 ghost use Rattle.ms_base.specs.declared.keys.WorkerKey.{WorkerKey};
 
-use crate::sent::SentBytes;
-use ms_base::{CallKey, NoMemory, Verdict, WorkerKey};
+use crate::sent::{LENGTH_SIZE, SentBytes};
+use channel_msgs::{PACKET_HEAD, write_packet_head};
+use ms_base::{CallKey, Id, NoMemory, Verdict, WorkerKey};
 use std::alloc::Global;
 use std::collections::BTreeMap;
 use std::marker::Model;
 use transcript::Note;
-
-// How many bytes of a frame tell the length of its payload.
-const LENGTH_SIZE: usize = 4;
 
 /// The notes, in order.
 #[derive(Debug, Drop)]
@@ -62,7 +60,7 @@ impl Notes {
         self.items.as_slice()
     }
 
-    /// Adds a note behind the others. The payload of a request is within its limit.
+    /// Adds a note behind the others. The payload of a request, and a packet, are within their limits.
     pub fn push(&mut self, note: Note) -> Result<(), NoMemory>
         requires { IsShort note }
         ensures ok { OnOk result (self.new ≡ self.old ++ note ∷ []) }
@@ -109,9 +107,16 @@ impl Notes {
         let Some(last) = self.items.pop() else {
             return;
         };
-        if let Note::Sent { worker, payload } = last {
-            self.sent
-                .cut(worker, LENGTH_SIZE + payload.as_slice().len());
+        match last {
+            Note::Sent { worker, payload } => {
+                self.sent.cut(worker, LENGTH_SIZE + payload.len());
+            }
+            Note::SentRtp { worker, id, packet } => {
+                let head = packet_head(id);
+                self.sent
+                    .cut(worker, LENGTH_SIZE + head.len() + packet.len());
+            }
+            _ => {}
         }
     }
 }
@@ -129,9 +134,21 @@ fn index(
     ensures err { OnErr result (AreIndexed notes.now places.new sent.new) }
 {
     match next {
-        Note::Sent { worker, payload } => sent.append(*worker, payload.as_slice()),
+        Note::Sent { worker, payload } => sent.append(*worker, &[], payload.as_slice()),
+        Note::SentRtp { worker, id, packet } => {
+            sent.append(*worker, &packet_head(*id), packet.as_slice())
+        }
         _ => keep_place(places, notes, next),
     }
+}
+
+// What stands before a packet for this id in its payload.
+fn packet_head(id: Id) -> [u8; PACKET_HEAD]
+    ensures { result ≡ packet_head id }
+{
+    let mut head = [0; PACKET_HEAD];
+    write_packet_head(id, &mut head);
+    head
 }
 
 // Keeps the place of the note that comes next, if it is the first that settles its call.

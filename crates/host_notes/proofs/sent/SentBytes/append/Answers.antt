@@ -16,7 +16,7 @@ returns-in-Some-clause-ok c =
     (λ grown.
     changed old new c.args.worker c.add_frame.new.into
     (λ w. ((c.get_mut.follows.holds c.add_frame.new.into).3 (search rules)).0 (w.slot, w.generation))
-    (λ b. b ++ frame c.args.payload.now) (grown ∙ ap (λ b. b ++ frame c.args.payload.now) (ap read c.in-Some.ensures.value)))
+    (λ b. b ++ frame (c.args.head.now ++ c.args.rest.now)) (grown ∙ ap (λ b. b ++ frame (c.args.head.now ++ c.args.rest.now)) (ap read c.in-Some.ensures.value)))
     c.add_frame.ensures.ok
 
 pub returns-in-Some-clause-err : goal.returns-in-Some-clause-err
@@ -38,5 +38,5 @@ returns-in_ok-insert-in-None-clause-ok c =
     (λ w.
     c.in_ok-insert-in-None.ensures.updates.0 (w.slot, w.generation)
     ∙ ap (λ m. cond (same_worker c.args.worker w) (Some c.add_frame-in-None.new.into) (hash.get same_slot m (w.slot, w.generation))) c.get_mut.follows.holds-at-none)
-    (λ b. b ++ frame c.args.payload.now)
-    (c.in_ok-add_frame-in-None.ensures.ok ∙ ap (λ b. b ++ frame c.args.payload.now) (c.new-bytes.ensures ∙ ap read c.in-None.ensures.value))
+    (λ b. b ++ frame (c.args.head.now ++ c.args.rest.now))
+    (c.in_ok-add_frame-in-None.ensures.ok ∙ ap (λ b. b ++ frame (c.args.head.now ++ c.args.rest.now)) (c.new-bytes.ensures ∙ ap read c.in-None.ensures.value))
