@@ -1,5 +1,5 @@
 -- Requests kept by their ids: what a look-up, one more and a filter come to.
-use Rattle.std.proofs.Common.{◌≡◌, ◌≤◌, ◌<◌, ℕ, ◌+◌, List, [], ◌∷◌, ◌++◌, Bool, true, false, not, cond, Some, refl, sym, ap, ◌∙◌, inl, inr, arith, nat_eq, nat_lt, subst, map, ◌||◌}
+use Rattle.std.proofs.Common.{◌≡◌, ◌≤◌, ◌<◌, ℕ, ◌+◌, List, [], ◌∷◌, ◌++◌, Bool, true, false, not, cond, Some, refl, sym, ap, ◌∙◌, inl, inr, arith, nat_eq, nat_lt, subst, map}
 use Rattle.std.proofs.lemmas.Bool.{cases_Bool}
 use Rattle.std.proofs.lemmas.Bool.Decides.{nat_tests}
 use Rattle.std.proofs.lemmas.Map.Keys.{IsStrictlyIncreasing-from_sorted, sorted_head, sorted_tail}
@@ -16,7 +16,7 @@ use Rattle.pending_calls.specs.declared.waiting.Owner.{Owner}
 use Rattle.ms_base.specs.declared.keys.Serial.{Serial}
 use Rattle.pending_calls.specs.Pending.{AreNumbered, PendingView, has_id, without}
 
-abbrev Entries : Type 0
+abbrev pub Entries : Type 0
 Entries = List (ℕ × Waiting)
 
 -- ---- numbers compared
@@ -27,7 +27,7 @@ cmp-greater a b h =
     let same : nat_eq a b ≡ false = grind (arith, nat_tests) in
     rw less (rw same refl)
 
-above : (a b : ℕ) → nat_cmp a b ≡ Less → a < b
+pub above : (a b : ℕ) → nat_cmp a b ≡ Less → a < b
 above a b h = elim (cases_Bool (nat_lt a b)) [
   | inl t ↦ grind (arith, nat_tests)
   | inr f ↦ elim (cases_Bool (nat_eq a b)) [
@@ -36,7 +36,7 @@ above a b h = elim (cases_Bool (nat_lt a b)) [
   ]
 ]
 
-is_eq-nat_cmp : (a b : ℕ) → is_eq (nat_cmp a b) ≡ nat_eq b a
+pub is_eq-nat_cmp : (a b : ℕ) → is_eq (nat_cmp a b) ≡ nat_eq b a
 is_eq-nat_cmp a b = elim (cases_Bool (nat_lt a b)) [
   | inl t ↦ (let apart : nat_eq b a ≡ false = grind (arith, nat_tests) in rw t (sym apart))
   | inr f ↦ elim (cases_Bool (nat_eq a b)) [
@@ -49,6 +49,14 @@ is_eq-nat_cmp a b = elim (cases_Bool (nat_lt a b)) [
 
 at-own : (last id : ℕ) (e : ℕ × Waiting) → IsKeptAt last e → is_at (nat_cmp id) e.0 ≡ has_id id e.1
 at-own last id e h = is_eq-nat_cmp id e.0 ∙ ap (λ n. nat_eq n id) h.0
+
+-- an id that is found was used
+pub found-used : (last id : ℕ) (w : Waiting) (es : Entries) → AllByRecursion (IsKeptAt last) es → lookup (is_at (nat_cmp id)) es ≡ Some w → id ≤ last
+found-used last id w [] h e = absurd cc
+found-used last id w (d ∷ es) h e = elim (cases_Bool (is_at (nat_cmp id) d.0)) [
+  | inl t ↦ (let here : nat_eq d.0 id ≡ true = sym (is_eq-nat_cmp id d.0) ∙ t in let low : d.0 ≤ last = h.0.2 in grind (arith, nat_tests))
+  | inr f ↦ found-used last id w es h.1 (sym (ap (λ b. cond b (Some d.1) (lookup (is_at (nat_cmp id)) es)) f) ∙ e)
+]
 
 pub lookup-kept : (last id : ℕ) (es : Entries) → AllByRecursion (IsKeptAt last) es → lookup (is_at (nat_cmp id)) es ≡ find (has_id id) (values_of es)
 lookup-kept last id [] h = refl
@@ -122,7 +130,7 @@ module _ (id last : ℕ) (w : Waiting) (es fs : Entries) (next : id ≡ last + 1
 
 -- ---- what is seen
 
-abbrev viewed : List Waiting → ℕ → PendingView
+abbrev pub viewed : List Waiting → ℕ → PendingView
 viewed waiting last = record { waiting = waiting; last = last }
 
 abbrev request : ℕ → Owner → Serial → Waiting
@@ -159,26 +167,9 @@ values-filtered p (e ∷ es) = elim (cases_Bool (p e.1)) [
   | inr f ↦ rw f (values-filtered p es)
 ]
 
-kept-filtered : (last : ℕ) (p : ℕ × Waiting → Bool) (es : Entries) → AllByRecursion (IsKeptAt last) es → AllByRecursion (IsKeptAt last) (filter p es)
-kept-filtered last p [] h = tt
-kept-filtered last p (e ∷ es) h = elim (cases_Bool (p e)) [
-  | inl t ↦ rw t (h.0, kept-filtered last p es h.1)
-  | inr f ↦ rw f (kept-filtered last p es h.1)
-]
-
-pub are-kept-filtered : (last : ℕ) (p : ℕ × Waiting → Bool) (es fs : Entries) → fs ≡ filter p es → IsStrictlySortedBy nat_cmp (keys_of fs) → AreKept es last → AreKept fs last
-are-kept-filtered last p es fs is s h = record {
-  each = subst (AllByRecursion (IsKeptAt last)) (sym is) (kept-filtered last p es h.each);
-  rising = s;
-}
-
-pub filter-same : {X : Type 0} (p q : X → Bool) → ((x : X) → p x ≡ q x) → (xs : List X) → filter p xs ≡ filter q xs
-filter-same p q same [] = refl
-filter-same p q same (x ∷ xs) = ap (λ b. cond b (x ∷ filter p xs) (filter p xs)) (same x) ∙ ap (λ ys. cond (q x) (x ∷ ys) ys) (filter-same p q same xs)
-
 -- ---- ids
 
-ids-keys : (last : ℕ) (es : Entries) → AllByRecursion (IsKeptAt last) es → keys_of es ≡ map (λ (w : Waiting). w.id) (values_of es)
+pub ids-keys : (last : ℕ) (es : Entries) → AllByRecursion (IsKeptAt last) es → keys_of es ≡ map (λ (w : Waiting). w.id) (values_of es)
 ids-keys last [] h = refl
 ids-keys last (e ∷ es) h = ap (λ n. n ∷ keys_of es) h.0.0 ∙ ap (λ ns. e.1.id ∷ ns) (ids-keys last es h.1)
 
@@ -191,28 +182,3 @@ numbered-kept es last h = record {
   rising = subst IsStrictlyIncreasing (ids-keys last es h.each) (IsStrictlyIncreasing-from_sorted (keys_of es) h.rising);
   used = All-from_recursion (λ (w : Waiting). (1 ≤ w.id) × (w.id ≤ last)) (values_of es) (used-kept last es h.each);
 }
-
--- ---- a set of serials
-
-or-cond : (a b t : Bool) → a ≡ b → cond t true a ≡ (b || t)
-or-cond a true true e = refl
-or-cond a true false e = e
-or-cond a false true e = refl
-or-cond a false false e = e
-
-flipped : (a b : ℕ) → nat_eq a b ≡ nat_eq b a
-flipped a b = elim (cases_Bool (nat_eq b a)) [
-  | inl t ↦ (let same : nat_eq a b ≡ true = grind (arith, nat_tests) in same ∙ sym t)
-  | inr f ↦ (let apart : nat_eq a b ≡ false = grind (arith, nat_tests) in apart ∙ sym f)
-]
-
-pub one-more : (x n : ℕ) (a b : Bool) → a ≡ b → cond (is_at (nat_cmp x) n) true a ≡ (b || nat_eq x n)
-one-more x n a b e = ap (λ t. cond t true a) (is_eq-nat_cmp x n ∙ flipped n x) ∙ or-cond a b (nat_eq x n) e
-
-pub view-dropped : (p q : Waiting → Bool) → ((w : Waiting) → p w ≡ q w) → (last : ℕ) (es fs : Entries) (before : PendingView) → viewed (values_of es) last ≡ before
-    → fs ≡ filter (λ e. not (p e.1)) es → viewed (values_of fs) last ≡ record before { waiting = filter (λ w. not (q w)) before.waiting }
-view-dropped p q same last es fs before seen is =
-    ap (λ gs. viewed (values_of gs) last) is
-    ∙ ap (λ ws. viewed ws last) (values-filtered (λ w. not (p w)) es)
-    ∙ ap (λ ws. viewed ws last) (filter-same (λ w. not (p w)) (λ w. not (q w)) (λ w. ap not (same w)) (values_of es))
-    ∙ ap (λ (v : PendingView). viewed (filter (λ w. not (q w)) v.waiting) v.last) seen

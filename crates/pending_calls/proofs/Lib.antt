@@ -1,2 +1,4 @@
 pub mod KeptLemmas
 pub mod LawLemmas
+pub mod ListedLemmas
+pub mod UnderLemmas

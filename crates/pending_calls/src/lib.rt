@@ -4,6 +4,7 @@
 
 mod laws;
 mod pending;
+mod under;
 mod waiting;
 
 pub use laws::{requests_are_settled_apart, requests_settle_once};

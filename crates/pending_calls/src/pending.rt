@@ -1,11 +1,8 @@
-ghost use Rattle.std.specs.Prelude.{◌≡◌, ◌↔◌, ℕ, ◌+◌, ◌<◌, ◌≤◌, ◌^◌, List, [], ◌∷◌, ◌++◌, length, filter, not, IfOk, OnOk, OnErr, Err, nat_eq};
-ghost use Rattle.std.specs.BTreeMap as tree;
-ghost use Rattle.std.specs.List.{list_any};
-ghost use Rattle.std.specs.Ordering.{nat_cmp};
+ghost use Rattle.std.specs.Prelude.{◌≡◌, ◌↔◌, ℕ, ◌+◌, ◌<◌, ◌≤◌, ◌^◌, List, [], ◌∷◌, ◌++◌, length, IfOk, OnOk, OnErr, Err};
 ghost use Rattle.pending_calls.specs.Pending.{AreNumbered, all_under, max_id, none_under, waiting_as, without};
-ghost use Rattle.pending_calls.specs.Kept.{is_in};
 ghost use Rattle.pending_calls.specs.declared.pending.IssueFault.TheVariants.{NoMemory};
 
+use crate::under::requests_under;
 use crate::waiting::{Owner, Waiting};
 use ms_base::{NoMemory, Serial};
 use std::alloc::{AllocFailed, Global};
@@ -37,6 +34,8 @@ pub struct Pending {
     alloc: Global,
     /// The requests by their ids.
     waiting: BTreeMap<u32, Waiting>,
+    /// The serial of each request's object, with the id of the request.
+    listed: BTreeSet<(u32, u32)>,
     last: u32,
 }
 
@@ -46,11 +45,11 @@ impl Model for Pending {
     ghost Value = { PendingView };
 
     ghost use Rattle.std.specs.BTreeMap.{values};
-    ghost use Rattle.pending_calls.specs.Kept.{AreKept};
+    ghost use Rattle.pending_calls.specs.Kept.{AreFound};
 
     ghost view = { λ p. record { waiting = values p.waiting; last = p.last } };
 
-    ghost invariant = { λ p. AreKept p.waiting.entries p.last };
+    ghost invariant = { λ p. AreFound p.waiting p.listed p.last };
 }
 
 impl Pending {
@@ -68,6 +67,7 @@ impl Pending {
         Pending {
             alloc,
             waiting: BTreeMap::new(alloc),
+            listed: BTreeSet::new(alloc),
             last,
         }
     }
@@ -84,7 +84,11 @@ impl Pending {
             return Err(IssueFault::IdsSpent);
         };
         let request = Waiting { id, owner, under };
-        self.waiting.insert(id, request)?;
+        self.listed.insert((under.0, id))?;
+        if self.waiting.insert(id, request).is_err() {
+            self.listed.remove(&(under.0, id));
+            return Err(IssueFault::NoMemory);
+        }
         self.last = id;
         Ok(id)
     }
@@ -94,7 +98,9 @@ impl Pending {
         ensures found { result ≡ waiting_as self.old.waiting id }
         ensures rest { self.new ≡ record self.old { waiting = without id self.old.waiting } }
     {
-        self.waiting.remove(&id)
+        let settled = self.waiting.remove(&id)?;
+        self.listed.remove(&(settled.under.0, id));
+        Some(settled)
     }
 
     /// Takes out the requests that were issued under one of these objects, in order of issue.
@@ -103,9 +109,10 @@ impl Pending {
         ensures rest { OnOk result (self.new ≡ record self.old { waiting = none_under fallen.now self.old.waiting }) }
         ensures err { OnErr result (self.new ≡ self.old) }
     {
-        let fallen = serials(self.alloc, fallen)?;
-        let taken = requests_under(self.alloc, &self.waiting, &fallen)?;
-        drop_under(&fallen, &mut self.waiting);
+        let taken = requests_under(self.alloc, &self.waiting, &self.listed, self.last, fallen)?;
+        for request in &taken {
+            let _settled = self.settle(request.id);
+        }
         Ok(taken)
     }
 
@@ -124,39 +131,4 @@ impl Pending {
         let _kept = self.waiting.len();
         self.last
     }
-}
-
-// The numbers of these objects, to be looked up.
-fn serials(alloc: Global, objects: &[Serial]) -> Result<BTreeSet<u32>, NoMemory>
-    ensures { IfOk result (λ set. (n : ℕ) → is_in set n ≡ list_any (λ o. nat_eq o.0 n) objects.now) }
-{
-    let mut set = BTreeSet::new(alloc);
-    for object in objects {
-        set.insert(object.0)?;
-    }
-    Ok(set)
-}
-
-// The requests under one of these objects, in order of issue.
-fn requests_under(
-    alloc: Global,
-    waiting: &BTreeMap<u32, Waiting>,
-    objects: &BTreeSet<u32>,
-) -> Result<Vec<Waiting>, NoMemory>
-    ensures { IfOk result (λ taken. taken.items ≡ filter (λ w. is_in objects.now w.under.0) (tree.values waiting.now)) }
-{
-    let taken = waiting
-        .values()
-        .filter(|request| objects.contains(&request.under.0))
-        .copied()
-        .collect(alloc)?;
-    Ok(taken)
-}
-
-// Takes out the requests under one of these objects.
-fn drop_under(objects: &BTreeSet<u32>, waiting: &mut BTreeMap<u32, Waiting>)
-    ensures kept { waiting.new.entries ≡ filter (λ e. not (is_in objects.now e.1.under.0)) waiting.old.entries }
-    ensures ordered { tree.IsOrdered nat_cmp waiting.new }
-{
-    waiting.retain(|_id, request| !objects.contains(&request.under.0));
 }

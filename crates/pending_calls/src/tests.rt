@@ -59,3 +59,14 @@ fn requests_under_the_fallen_are_taken(rt: HostRuntime) -> Result<(), Fail> {
     assert_eq!(rt; (pending.settle(3), pending.of_worker()), (None, 1));
     Ok(())
 }
+
+#[test]
+fn what_has_settled_is_not_taken(rt: HostRuntime) -> Result<(), Fail> {
+    let mut pending = four(rt.alloc())?;
+    let settled = pending.settle(1).map(|w| w.under);
+    let taken = closed(&mut pending, &[Serial(5)])?;
+    let ids = (taken.get(0).map(|w| w.id), taken.len());
+    assert_eq!(rt; (settled, ids), (Some(Serial(5)), (Some(3), 1)));
+    assert_eq!(rt; (pending.last(), pending.of_worker()), (4, 2));
+    Ok(())
+}

@@ -1,15 +1,12 @@
-use Rattle.std.proofs.Common.{not}
-use Rattle.pending_calls.specs.Kept.{is_in}
-use Rattle.pending_calls.specs.Pending.{is_under}
-use Rattle.pending_calls.proofs.KeptLemmas.{are-kept-filtered, view-dropped}
+use Rattle.std.proofs.Common.{List, sym, ap, ◌∙◌}
+use Rattle.pending_calls.specs.declared.waiting.Waiting.{Waiting}
+use Rattle.pending_calls.proofs.UnderLemmas.{view-taken, without-none}
 use Rattle.pending_calls.proofs.pending.Pending.close_under.Goals as goal
 
-pub invariant_of-self : goal.invariant_of-self
-invariant_of-self c =
-    are-kept-filtered c.self.inside.last (λ e. not (is_in c.in_ok-fallen.fallen e.1.under.0)) c.self.inside.waiting.entries c.drop_under.new.waiting.entries
-    c.drop_under.ensures.kept c.drop_under.ensures.ordered c.self.invariant
+pub loop-request-init : goal.loop-request-init
+loop-request-init c = ap (λ (ws : List Waiting). record { waiting = ws; last = c.args.self.now.last }) (sym (without-none c.args.self.now.waiting))
 
-pub returns-clause-rest : goal.returns-clause-rest
-returns-clause-rest c =
-    view-dropped (λ w. is_in c.in_ok-fallen.fallen w.under.0) (is_under c.args.fallen.now) (λ w. c.in_ok-fallen.ensures w.under.0) c.self.inside.last c.self.inside.waiting.entries
-    c.drop_under.new.waiting.entries c.args.self.now c.self.view_is c.drop_under.ensures.kept
+pub loop-request-preserved : goal.loop-request-preserved
+loop-request-preserved c =
+    c.settle-settled.ensures.rest
+    ∙ view-taken c.deref-request-items.result.now c.loop-request.request-index _ c.loop-request-test.true c.loop-request.self c.args.self.now c.loop-request.invariant
