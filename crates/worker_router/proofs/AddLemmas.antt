@@ -11,9 +11,9 @@ use Rattle.worker_router.specs.State.{Sink, Source, TransportAt, same_id}
 use Rattle.worker_router.specs.Calls.{change, differs, first_flags, or_missing, without}
 use Rattle.worker_router.specs.Tables.{AreDifferent, AreTables, FeedView, Outlet, Outline, outlet_of, outline_of, owner_in, present, same_place}
 use Rattle.worker_router.proofs.ListLemmas.{map-push, present-map}
-use Rattle.worker_router.proofs.TableLemmas.{attached, attached-to, cid, pid, tables-with-consumer, tables-with-producer}
+use Rattle.worker_router.proofs.TableLemmas.{cid, pid, relisted-at, tables-with-consumer, tables-with-producer, with-place}
 use Rattle.worker_router.proofs.RouterLemmas.{consumer-flags, fid, producer-fault, source}
-use Rattle.worker_router.proofs.CloseLemmas.{differ-outlets, differ-outlines, sid}
+use Rattle.worker_router.proofs.CloseLemmas.{differ-outlets, differ-outlines, outlines-relisted, sid}
 
 abbrev Ssrcs : Type 0
 Ssrcs = List ((List ℕ × ℕ) × List ℕ)
@@ -77,22 +77,14 @@ producer-added fs fs2 cs own new t f put empty free apart table d1 d3 =
 abbrev pub attach : Id → Id → FeedView → FeedView
 attach id transport f = record f { consumers = f.consumers ++ (id, transport) ∷ [] }
 
-outline-at : (s : Sink) (f : FeedView) (b : Bool) → outline_of (cond b (attach s.id s.transport f) f) ≡ cond b (attached (outlet_of s) (outline_of f)) (outline_of f)
-outline-at s f true = refl
-outline-at s f false = refl
-
-outlines-attached : (s : Sink) (fs : List FeedView) → map outline_of (change (λ f. same_id f.source.id s.producer) (attach s.id s.transport) fs) ≡ attached-to (outlet_of s) (map outline_of fs)
-outlines-attached s [] = refl
-outlines-attached s (f ∷ fs) = let here = outline-at s f (same_id f.source.id s.producer) in let rest = outlines-attached s fs in (λ j. here j ∷ rest j)
-
 pub consumer-added : (fs fs2 : List FeedView) (cs cs2 : List Sink) (own : Ssrcs) → AreTables (map outline_of fs) (map outlet_of cs) own → (s : Sink) → cs2 ≡ cs ++ s ∷ []
     → fs2 ≡ change (λ f. same_id f.source.id s.producer) (attach s.id s.transport) fs → present fid fs s.producer ≡ true → AreDifferent sid cs2
     → AreTables (map outline_of fs2) (map outlet_of cs2) own
 consumer-added fs fs2 cs cs2 own t s p q fed d =
-    let feeds : map outline_of fs2 ≡ attached-to (outlet_of s) (map outline_of fs) = ap (map outline_of) q ∙ outlines-attached s fs in
+    let feeds : map outline_of fs2 ≡ relisted-at s.producer (with-place (s.id, s.transport)) (map outline_of fs) = ap (map outline_of) q ∙ outlines-relisted s.producer (with-place (s.id, s.transport)) fs in
     let sinks : map outlet_of cs2 ≡ map outlet_of cs ++ outlet_of s ∷ [] = ap (map outlet_of) p ∙ map-push outlet_of cs s in
     subst (λ (ps : List Outline). AreTables ps (map outlet_of cs2) own) (sym feeds)
-    (subst (λ (os : List Outlet). AreTables (attached-to (outlet_of s) (map outline_of fs)) os own) (sym sinks)
+    (subst (λ (os : List Outlet). AreTables (relisted-at s.producer (with-place (s.id, s.transport)) (map outline_of fs)) os own) (sym sinks)
     (tables-with-consumer (outlet_of s) (map outline_of fs) (map outlet_of cs) own t (present-map outline_of pid fs s.producer ∙ fed)
     (subst (AreDifferent cid) sinks (differ-outlets cs2 d))))
 

@@ -1,13 +1,14 @@
 -- What closes leave of a Router.
-use Rattle.std.proofs.Common.{◌≡◌, ℕ, List, [], ◌∷◌, ◌&&◌, ◌||◌, Bool, true, false, cond, not, map, filter, find, Option, Some, None, is_some, bytes_eq, refl, sym, ap, subst, ◌∙◌, true≢false}
+use Rattle.std.proofs.Common.{◌≡◌, ℕ, List, [], ◌∷◌, ◌&&◌, ◌||◌, Bool, true, false, cond, not, map, filter, find, Some, bytes_eq, refl, sym, ap, subst, ◌∙◌}
 use Rattle.std.specs.List.{AllByRecursion, IsDistinct}
+use Rattle.std.specs.Option.{option_map}
 use Rattle.ms_base.specs.declared.id.Id.{Id}
 use Rattle.worker_router.specs.State.{RouterState, Sink, Source, TransportAt, goes_over, is_of, is_on, same_id}
-use Rattle.worker_router.specs.Calls.{comes_by, without, without_consumer, without_producer, without_transport}
-use Rattle.worker_router.specs.Tables.{AreDifferent, AreTables, FeedView, Outlet, Outline, id_of, outlet_of, outline_of, present, router_of, same_place, with_present}
-use Rattle.worker_router.proofs.ListLemmas.{map-map, map-filter, present-map, filter-same, filter-filter, all-over, all-map, guard, find-filter, find-test, kept-present, is}
-use Rattle.worker_router.proofs.TableLemmas.{and-split, cid, pid, tables-fewer, tables-kept, trimmed}
-use Rattle.worker_router.proofs.RouterLemmas.{comes-some, feeds-differ, fid, id-same, source}
+use Rattle.worker_router.specs.Calls.{change, comes_by, without, without_consumer, without_producer, without_transport}
+use Rattle.worker_router.specs.Tables.{AreDifferent, AreTables, FeedView, Outlet, Outline, detached, id_of, outlet_of, outline_of, present, router_of, same_place, with_present}
+use Rattle.worker_router.proofs.ListLemmas.{map-map, map-filter, present-map, filter-by, filter-same, kept-by, filter-filter, all-over, all-map, find-map, kept-present, is}
+use Rattle.worker_router.proofs.TableLemmas.{and-split, cid, is_fed, pid, relisted, relisted-at, tables-kept, tables-without-consumer, tables-without-producer, trimmed, without-place}
+use Rattle.worker_router.proofs.RouterLemmas.{comes-some, feeds-differ, fid, source, source-attach}
 
 abbrev pub sid : Sink → Id
 sid s = s.id
@@ -17,10 +18,6 @@ Ssrcs = List ((List ℕ × ℕ) × List ℕ)
 
 -- ---- lists
 
-pub filter-by : {X : Type 0} (s t : X → Bool) → ((x : X) → s x ≡ t x) → (xs : List X) → filter s xs ≡ filter t xs
-filter-by s t same [] = refl
-filter-by s t same (x ∷ xs) = let here = same x in let rest = filter-by s t same xs in (λ j. cond (here j) (x ∷ rest j) (rest j))
-
 map-by : {X Y : Type 0} (f g : X → Y) → ((x : X) → f x ≡ g x) → (xs : List X) → map f xs ≡ map g xs
 map-by f g same [] = refl
 map-by f g same (x ∷ xs) = let here = same x in let rest = map-by f g same xs in (λ j. here j ∷ rest j)
@@ -29,13 +26,20 @@ all-of : {X : Type 0} (P : X → Type 0) → ((x : X) → P x) → (xs : List X)
 all-of P p [] = tt
 all-of P p (x ∷ xs) = (p x, all-of P p xs)
 
-pub filter-true : {X : Type 0} (xs : List X) → xs ≡ filter (λ x. true) xs
-filter-true [] = refl
-filter-true (x ∷ xs) = ap (λ ys. x ∷ ys) (filter-true xs)
-
 de-morgan : (a b : Bool) → not a && not b ≡ not (a || b)
 de-morgan true b = refl
 de-morgan false b = refl
+
+-- ---- one list of Consumers
+
+relist-at : (h : List (Id × Id) → List (Id × Id)) (f : FeedView) (b : Bool) → outline_of (cond b (record f { consumers = h f.consumers }) f) ≡ cond b (relisted h (outline_of f)) (outline_of f)
+relist-at h f true = refl
+relist-at h f false = refl
+
+pub outlines-relisted : (who : Id) (h : List (Id × Id) → List (Id × Id)) (fs : List FeedView)
+    → map outline_of (change (λ f. same_id f.source.id who) (λ f. record f { consumers = h f.consumers }) fs) ≡ relisted-at who h (map outline_of fs)
+outlines-relisted who h [] = refl
+outlines-relisted who h (f ∷ fs) = let here = relist-at h f (same_id f.source.id who) in let rest = outlines-relisted who h fs in (λ j. here j ∷ rest j)
 
 -- ---- what is trimmed
 
@@ -67,12 +71,6 @@ module _ (fs : List FeedView) (cs : List Sink) (own : Ssrcs) (t : AreTables (map
 
   d-outlets : AreDifferent cid (filter s (map outlet_of cs))
   d-outlets = subst (AreDifferent cid) outlets-are (differ-outlets cs1 d2)
-
-  closed-one : AreTables (map outline_of (map (with_present cs1) fs)) (map outlet_of cs1) own
-  closed-one =
-      subst (λ (os : List Outlet). AreTables (map outline_of (map (with_present cs1) fs)) os own) (sym outlets-are)
-      (subst (λ (ps : List Outline). AreTables ps (filter s (map outlet_of cs)) own) (sym (outlines-present cs1 fs ∙ ap (λ (os : List Outlet). map (trimmed os) (map outline_of fs)) outlets-are))
-      (tables-fewer (map outline_of fs) (map outlet_of cs) own t s d-outlets (kept-present cid s (map outlet_of cs) t.consumers_differ)))
 
   module _ (k : Outline → Bool) (new : Ssrcs)
       (fed : (c : Outlet) → s c ≡ true → present fid (filter (λ f. k (outline_of f)) fs) c.producer ≡ true)
@@ -106,17 +104,43 @@ abbrev Closed : (ts : List TransportAt) (r : RouterState) (own : Ssrcs) → List
 Closed ts r own both = AreTables (map outline_of both.0) (map outlet_of both.1) own × (router_of ts both.0 both.1 ≡ r)
 
 module _ (r : RouterState) (ts : List TransportAt) (fs : List FeedView) (cs : List Sink) (whole : router_of ts fs cs ≡ r) (own : Ssrcs) (t : AreTables (map outline_of fs) (map outlet_of cs) own) where
-  pub consumer-closed : (id : Id) (fs2 : List FeedView) (cs2 : List Sink) → cs2 ≡ without (λ c. same_id c.id id) cs → fs2 ≡ map (with_present cs2) fs → AreDifferent sid cs2
+  pub consumer-closed : (id : Id) (s : Sink) (fs2 : List FeedView) (cs2 : List Sink) → Some s ≡ find (is sid id) cs → cs2 ≡ without (is sid id) cs
+      → fs2 ≡ change (λ f. same_id f.source.id s.producer) (detached id) fs → AreDifferent sid cs2
       → AreTables (map outline_of fs2) (map outlet_of cs2) own × (router_of ts fs2 cs2 ≡ without_consumer r id)
-  consumer-closed id fs2 cs2 p q d =
-      let left : List Sink = without (λ c. same_id c.id id) cs in
-      let fp : fs2 ≡ map (with_present left) fs = q ∙ ap (λ l. map (with_present l) fs) p in
-      let view : router_of ts (map (with_present left) fs) left ≡ without_consumer r id =
-      ap (λ (ps : List Source). record { transports = ts; producers = ps; consumers = left }) (sources-present left fs) ∙ ap (λ (x : RouterState). without_consumer x id) whole
+  consumer-closed id s fs2 cs2 there p q d =
+      let sinks : map outlet_of cs2 ≡ without (is cid id) (map outlet_of cs) = ap (map outlet_of) p ∙ map-filter outlet_of (λ c. not (is cid id c)) cs in
+      let feeds : map outline_of fs2 ≡ relisted-at s.producer (without-place id) (map outline_of fs) = ap (map outline_of) q ∙ outlines-relisted s.producer (without-place id) fs in
+      let found : find (is cid id) (map outlet_of cs) ≡ Some (outlet_of s) = find-map outlet_of (is cid id) cs ∙ ap (option_map outlet_of) (sym there) in
+      let tables : AreTables (relisted-at s.producer (without-place id) (map outline_of fs)) (without (is cid id) (map outlet_of cs)) own =
+      tables-without-consumer (map outline_of fs) (map outlet_of cs) own t id (outlet_of s) found (subst (AreDifferent cid) sinks (differ-outlets cs2 d))
       in
-      subst (Closed ts (without_consumer r id) own) (sym (λ j. (fp j, p j))) (closed-one fs cs own t (λ c. not (same_id c.id id)) (subst (AreDifferent sid) p d), view)
+      let sources : map source fs2 ≡ map source fs = ap (map source) q ∙ source-attach (λ f. same_id f.source.id s.producer) (detached id) (λ f. refl) fs in (
+        subst (λ (ps : List Outline). AreTables ps (map outlet_of cs2) own) (sym feeds)
+            (subst (λ (os : List Outlet). AreTables (relisted-at s.producer (without-place id) (map outline_of fs)) os own) (sym sinks) tables),
+        (λ j. record { transports = ts; producers = sources j; consumers = p j }) ∙ ap (λ (x : RouterState). without_consumer x id) whole,
+      )
 
-  -- Producers are taken out, and Consumers over a transport or none
+  pub producer-closed : (id : Id) (fs1 : List FeedView) (cs2 : List Sink) (new : Ssrcs) → fs1 ≡ without (is fid id) fs → AreDifferent fid fs1 → cs2 ≡ without (is_of id) cs → AreDifferent sid cs2
+      → new ≡ filter (λ e. present fid fs1 (id_of e.1)) own → IsDistinct same_place (map (λ e. e.0) new)
+      → AreTables (map outline_of fs1) (map outlet_of cs2) new × (router_of ts fs1 cs2 ≡ without_producer r id)
+  producer-closed id fs1 cs2 new p d1 q d2 put d3 =
+      let feeds : map outline_of fs1 ≡ without (is pid id) (map outline_of fs) = ap (map outline_of) p ∙ map-filter outline_of (λ f. not (is pid id f)) fs in
+      let sinks : map outlet_of cs2 ≡ without (is_fed id) (map outlet_of cs) = ap (map outlet_of) q ∙ map-filter outlet_of (λ c. not (is_fed id c)) cs in
+      let sources : map source fs1 ≡ without (λ x. same_id x.id id) (map source fs) = ap (map source) p ∙ map-filter source (λ x. not (same_id x.id id)) fs in
+      let owned : new ≡ filter (λ e. present pid (without (is pid id) (map outline_of fs)) (id_of e.1)) own =
+      put
+      ∙ filter-by (λ e. present fid fs1 (id_of e.1)) (λ e. present pid (without (is pid id) (map outline_of fs)) (id_of e.1))
+      (λ e. sym (present-map outline_of pid fs1 (id_of e.1)) ∙ ap (λ (ps : List Outline). present pid ps (id_of e.1)) feeds) own
+      in
+      let tables : AreTables (without (is pid id) (map outline_of fs)) (without (is_fed id) (map outlet_of cs)) new =
+      tables-without-producer (map outline_of fs) (map outlet_of cs) own t id new (subst (AreDifferent pid) feeds (differ-outlines fs1 d1)) (subst (AreDifferent cid) sinks (differ-outlets cs2 d2)) owned d3
+      in (
+        subst (λ (ps : List Outline). AreTables ps (map outlet_of cs2) new) (sym feeds)
+            (subst (λ (os : List Outlet). AreTables (without (is pid id) (map outline_of fs)) os new) (sym sinks) tables),
+        (λ j. record { transports = ts; producers = sources j; consumers = q j }) ∙ ap (λ (x : RouterState). without_producer x id) whole,
+      )
+
+  -- Producers are taken out, and Consumers over a transport
   module _ (k : Outline → Bool) (o : Outlet → Bool) (fs1 fs2 : List FeedView) (cs1 cs2 : List Sink) (new : Ssrcs) (p : fs1 ≡ filter (λ f. k (outline_of f)) fs)
       (d1 : AreDifferent fid fs1) (q : cs1 ≡ filter (λ c. o (outlet_of c)) cs) (a : cs2 ≡ filter (λ c. present fid fs1 c.producer) cs1) (b : fs2 ≡ map (with_present cs2) fs1)
       (d2 : AreDifferent sid cs2) (put : new ≡ filter (λ e. present fid fs1 (id_of e.1)) own) (d3 : IsDistinct same_place (map (λ e. e.0) new)) where
@@ -144,37 +168,10 @@ module _ (r : RouterState) (ts : List TransportAt) (fs : List FeedView) (cs : Li
         in
         subst (Closed ts2 r2 new) (sym (λ j. (feeds-are j, sinks-are j))) (both, view)
 
-  -- whether the Producer of a Consumer is kept
-  kept-by : (keep : FeedView → Bool) (i : Id) (o : Option FeedView) → find (is fid i) fs ≡ o → is_some o ≡ true → (v : Bool) → ((f : FeedView) → find (is fid i) fs ≡ Some f → keep f ≡ v)
-      → present fid (filter keep fs) i ≡ v
-  kept-by keep i None e there v h = absurd (true≢false (sym there))
-  kept-by keep i (Some f) e there v h =
-      ap is_some (find-filter fid i keep fs (feeds-differ fs t.producers_differ) ∙ ap (guard keep) e) ∙ (by (keep f) ∙ h f e)
-    where
-      by : (b : Bool) → is_some (cond b (Some f) None) ≡ b
-      by true = refl
-      by false = refl
-
   there-all : AllByRecursion (λ (c : Sink). present fid fs c.producer ≡ true) cs
   there-all =
       all-map (λ (c : Sink). present pid (map outline_of fs) c.producer ≡ true) (λ c. present fid fs c.producer ≡ true) (λ c h. sym (present-map outline_of pid fs c.producer) ∙ h) cs
       (all-over outlet_of (λ c. present pid (map outline_of fs) c.producer ≡ true) cs t.sources)
-
-  pub producer-closed : (id : Id) (fs1 fs2 : List FeedView) (cs2 : List Sink) (new : Ssrcs) → fs1 ≡ without (λ f. same_id f.source.id id) fs → AreDifferent fid fs1
-      → cs2 ≡ filter (λ c. present fid fs1 c.producer) cs → fs2 ≡ map (with_present cs2) fs1 → AreDifferent sid cs2
-      → new ≡ filter (λ e. present fid fs1 (id_of e.1)) own → IsDistinct same_place (map (λ e. e.0) new)
-      → AreTables (map outline_of fs2) (map outlet_of cs2) new × (router_of ts fs2 cs2 ≡ without_producer r id)
-  producer-closed id fs1 fs2 cs2 new p d1 a b d2 put d3 =
-      let keep : FeedView → Bool = λ f. not (same_id f.source.id id) in
-      let sources-are : map source (filter keep fs) ≡ filter (λ (x : Source). not (same_id x.id id)) (map source fs) = map-filter source (λ x. not (same_id x.id id)) fs in
-      let sinks : filter (λ (c : Sink). present fid (filter keep fs) c.producer) cs ≡ filter (λ c. not (is_of id c)) cs =
-      filter-same (λ (c : Sink). present fid (filter keep fs) c.producer) (λ c. not (is_of id c)) cs
-      (all-map (λ (c : Sink). present fid fs c.producer ≡ true) (λ c. present fid (filter keep fs) c.producer ≡ not (is_of id c))
-      (λ c there. kept-by keep c.producer (find (is fid c.producer) fs) refl there (not (is_of id c))
-      (λ f e. ap (λ (i : Id). not (same_id i id)) (id-same f.source.id c.producer (find-test (is fid c.producer) fs f e)))) cs there-all)
-      in
-      gone (λ x. not (same_id x.id id)) (λ c. true) fs1 fs2 cs cs2 new p d1 (filter-true cs) a b d2 put d3 ts (without_producer r id)
-      ((λ j. record { transports = ts; producers = sources-are j; consumers = sinks j }) ∙ ap (λ (x : RouterState). without_producer x id) whole)
 
   pub transport-closed : (id : Id) (ts2 : List TransportAt) (fs1 fs2 : List FeedView) (cs1 cs2 : List Sink) (new : Ssrcs) → ts2 ≡ without (λ x. same_id x.id id) ts
       → fs1 ≡ without (λ f. is_on id f.source) fs → AreDifferent fid fs1 → cs1 ≡ without (goes_over id) cs
@@ -190,7 +187,7 @@ module _ (r : RouterState) (ts : List TransportAt) (fs : List FeedView) (cs : Li
       (λ c. (not (goes_over id c) && present fid (filter keep fs) c.producer) ≡ not (goes_over id c || comes_by (router_of ts fs cs) id c))
       (λ c there.
       ap (λ v. not (goes_over id c) && v)
-      (kept-by keep c.producer (find (is fid c.producer) fs) refl there (not (comes_by (router_of ts fs cs) id c)) (λ f e. ap not (comes-some (router_of ts fs cs) ts fs cs refl own t id c f e)))
+      (kept-by fid fs (feeds-differ fs t.producers_differ) keep c.producer there (not (comes_by (router_of ts fs cs) id c)) (λ f e. ap not (comes-some (router_of ts fs cs) ts fs cs refl own t id c f e)))
       ∙ de-morgan (goes_over id c) (comes_by (router_of ts fs cs) id c)) cs there-all)
       in
       gone (λ x. not (same_id x.transport id)) (λ c. not (same_id c.transport id)) fs1 fs2 cs1 cs2 new p d1 q a b d2 put d3 ts2 (without_transport r id)

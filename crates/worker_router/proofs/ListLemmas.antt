@@ -1,14 +1,14 @@
 -- Lists of objects of different ids.
-use Rattle.std.proofs.Common.{◌<◌, arith, length, get_or, ◌≡◌, ℕ, List, [], ◌∷◌, ◌++◌, ◌&&◌, ◌||◌, Bool, true, false, cond, not, map, filter, find, Option, Some, None, is_some, bytes_eq, refl, sym, ap, subst, ◌∙◌, true≢false}
+use Rattle.std.proofs.Common.{◌<◌, arith, length, get_or, ◌≡◌, ℕ, List, [], ◌∷◌, ◌++◌, ◌&&◌, ◌||◌, Bool, true, false, cond, map, filter, find, Option, Some, None, is_some, bytes_eq, refl, sym, ap, subst, ◌∙◌, true≢false}
 use Rattle.std.specs.Cmp.Lexicographic.{bytes_decides}
 use Rattle.std.proofs.lemmas.List.{ext_get_or}
 use Rattle.std.proofs.lemmas.List.FromFn.{get_or-map-range_with_len, length-map-range_with_len}
 use Rattle.std.specs.List.{AllByRecursion, IsDistinct, list_any, range_with_len}
-use Rattle.std.specs.Option.{option_map, option_and_then}
+use Rattle.std.specs.Option.{option_map}
 use Rattle.ms_base.specs.declared.id.Id.{Id}
 use Rattle.worker_router.specs.State.{same_id}
-use Rattle.worker_router.specs.Calls.{change, without}
-use Rattle.worker_router.specs.Tables.{AreDifferent, present}
+use Rattle.worker_router.specs.Calls.{change}
+use Rattle.worker_router.specs.Tables.{AreDifferent, id_of, present}
 use Rattle.worker_router.proofs.ByIdLemmas.{same-bytes, swapped, others-differ}
 
 -- ---- lists
@@ -64,6 +64,10 @@ is-some-map g (Some x) = refl
 
 pub present-map : {X Y : Type 0} (g : X → Y) (id : Y → Id) (xs : List X) (i : Id) → present id (map g xs) i ≡ present (λ x. id (g x)) xs i
 present-map g id xs i = ap is_some (find-map g (λ y. same_id (id y) i) xs) ∙ is-some-map g (find (λ x. same_id (id (g x)) i) xs)
+
+pub filter-by : {X : Type 0} (s t : X → Bool) → ((x : X) → s x ≡ t x) → (xs : List X) → filter s xs ≡ filter t xs
+filter-by s t same [] = refl
+filter-by s t same (x ∷ xs) = let here = same x in let rest = filter-by s t same xs in (λ j. cond (here j) (x ∷ rest j) (rest j))
 
 module _ {X : Type 0} where
   pub filter-same : (s t : X → Bool) (xs : List X) → AllByRecursion (λ x. s x ≡ t x) xs → filter s xs ≡ filter t xs
@@ -164,6 +168,18 @@ module _ {X : Type 0} where
 pub self-same : (bytes : List ℕ) → bytes_eq bytes bytes ≡ true
 self-same bytes = (bytes_decides bytes bytes).1 refl
 
+pub change-by : {X : Type 0} (t u : X → Bool) (f : X → X) (xs : List X) → AllByRecursion (λ x. t x ≡ u x) xs → change t f xs ≡ change u f xs
+change-by t u f [] h = refl
+change-by t u f (x ∷ xs) h = let here = h.0 in let rest = change-by t u f xs h.1 in (λ j. cond (here j) (f x) x ∷ rest j)
+
+pub map-none : {X : Type 0} (f : X → X) (xs : List X) → AllByRecursion (λ x. f x ≡ x) xs → map f xs ≡ xs
+map-none f [] h = refl
+map-none f (x ∷ xs) h = let here = h.0 in let rest = map-none f xs h.1 in (λ j. here j ∷ rest j)
+
+pub change-none : {X : Type 0} (f : X → X) (xs : List X) → change (λ x. false) f xs ≡ xs
+change-none f [] = refl
+change-none f (x ∷ xs) = ap (λ ys. x ∷ ys) (change-none f xs)
+
 module _ {X : Type 0} (id : X → Id) where
   abbrev pub ids : List X → List (List ℕ)
   ids xs = map (λ x. (id x).0) xs
@@ -228,6 +244,22 @@ module _ {X : Type 0} (id : X → Id) where
   founds [] apart = tt
   founds (x ∷ xs) apart = (ap (λ c. cond c (Some x) (find (is (id x)) xs)) (self-same (id x).0), later x xs xs apart.0 (founds xs apart.1))
 
+  apart-filter : (b : List ℕ) (keep : X → Bool) (xs : List X) → AllByRecursion (λ k. bytes_eq b k ≡ false) (ids xs) → AllByRecursion (λ k. bytes_eq b k ≡ false) (ids (filter keep xs))
+  apart-filter b keep xs h =
+      all-under (λ x. (id x).0) (λ k. bytes_eq b k ≡ false) (filter keep xs)
+      (all-filter (λ x. bytes_eq b (id x).0 ≡ false) keep xs (all-over (λ x. (id x).0) (λ k. bytes_eq b k ≡ false) xs h))
+
+  differ-filter-at : (x : X) (ys : List X) (b : Bool) → AllByRecursion (λ k. bytes_eq (id x).0 k ≡ false) (ids ys) → AreDifferent id ys → AreDifferent id (cond b (x ∷ ys) ys)
+  unfolding IsDistinct
+  differ-filter-at x ys true apart more = (apart, more)
+  differ-filter-at x ys false apart more = more
+
+  -- those that are kept are different
+  pub differ-filter : (keep : X → Bool) (xs : List X) → AreDifferent id xs → AreDifferent id (filter keep xs)
+  unfolding IsDistinct
+  differ-filter keep [] apart = tt
+  differ-filter keep (x ∷ xs) apart = differ-filter-at x (filter keep xs) (keep x) (apart-filter (id x).0 keep xs apart.0) (differ-filter keep xs apart.1)
+
   is-some-guard : (keep : X → Bool) (x : X) (b : Bool) → is_some (cond b (Some x) None) ≡ b
   is-some-guard keep x true = refl
   is-some-guard keep x false = refl
@@ -237,6 +269,48 @@ module _ {X : Type 0} (id : X → Id) where
   kept-present keep xs apart =
       all-map (λ x. find (is (id x)) xs ≡ Some x) (λ x. present id (filter keep xs) (id x) ≡ keep x)
       (λ x found. ap is_some (find-filter (id x) keep xs apart ∙ ap (guard keep) found) ∙ is-some-guard keep x (keep x)) xs (founds xs apart)
+
+  -- whether the object of an id is kept
+  pub kept-by : (xs : List X) → AreDifferent id xs → (keep : X → Bool) (i : Id) → present id xs i ≡ true → (v : Bool) → ((x : X) → find (is i) xs ≡ Some x → keep x ≡ v)
+      → present id (filter keep xs) i ≡ v
+  kept-by xs apart keep i there v h = by (find (is i) xs) refl there
+    where
+      by : (o : Option X) → find (is i) xs ≡ o → is_some o ≡ true → present id (filter keep xs) i ≡ v
+      by None e there = absurd (true≢false (sym there))
+      by (Some x) e there = ap is_some (find-filter i keep xs apart ∙ ap (guard keep) e) ∙ (is-some-guard keep x (keep x) ∙ h x e)
+
+-- ---- objects that are named by a list
+
+module _ {A X : Type 0} (name : A → Id) (id : X → Id) (f : X → X) (keeps : (x : X) → id (f x) ≡ id x) where
+  abbrev pub named : List A → X → Bool
+  named names x = present name names (id x)
+
+  absent : (i : Id) (names : List A) → AllByRecursion (λ k. bytes_eq i.0 k ≡ false) (map (λ a. (name a).0) names) → present name names i ≡ false
+  absent i [] h = refl
+  absent i (a ∷ names) h = ap (λ k. is_some (cond k (Some a) (find (λ y. same_id (name y) i) names))) (swapped (name a).0 i.0 ∙ h.0) ∙ absent i names h.1
+
+  next-at : (a : A) (names : List A) → present name names (name a) ≡ false → (x : X) (b : Bool) → same_id (id x) (name a) ≡ b
+      → cond (named names (cond b (f x) x)) (f (cond b (f x) x)) (cond b (f x) x) ≡ cond (named (a ∷ names) x) (f x) x
+  next-at a names none x true e =
+      let same : id x ≡ name a = ap id_of (same-bytes (id x).0 (name a).0 e) in
+      let first : cond (named names (f x)) (f (f x)) (f x) ≡ f x = ap (λ k. cond k (f (f x)) (f x)) (ap (present name names) (keeps x ∙ same) ∙ none) in
+      let second : cond (named (a ∷ names) x) (f x) x ≡ f x = ap (λ k. cond (is_some (cond k (Some a) (find (λ y. same_id (name y) (id x)) names))) (f x) x) (swapped (name a).0 (id x).0 ∙ e) in
+      first ∙ sym second
+  next-at a names none x false e = sym (ap (λ k. cond (is_some (cond k (Some a) (find (λ y. same_id (name y) (id x)) names))) (f x) x) (swapped (name a).0 (id x).0 ∙ e))
+
+  next-each : (a : A) (names : List A) → present name names (name a) ≡ false → (xs : List X) → change (named names) f (change (λ x. same_id (id x) (name a)) f xs) ≡ change (named (a ∷ names)) f xs
+  next-each a names none [] = refl
+  next-each a names none (x ∷ xs) = let here = next-at a names none x (same_id (id x) (name a)) refl in let rest = next-each a names none xs in (λ j. here j ∷ rest j)
+
+  -- to change the first and then the others is to change all
+  pub named-next : (a : A) (names : List A) → IsDistinct bytes_eq (map (λ b. (name b).0) (a ∷ names)) → (xs : List X)
+      → change (named names) f (change (λ x. same_id (id x) (name a)) f xs) ≡ change (named (a ∷ names)) f xs
+  unfolding IsDistinct
+  named-next a names apart xs = next-each a names (absent (name a) names apart.0) xs
+
+  pub distinct-rest : (a : A) (names : List A) → IsDistinct bytes_eq (map (λ b. (name b).0) (a ∷ names)) → IsDistinct bytes_eq (map (λ b. (name b).0) names)
+  unfolding IsDistinct
+  distinct-rest a names apart = apart.1
 
 -- ---- a list by its places
 

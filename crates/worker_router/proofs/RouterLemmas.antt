@@ -17,10 +17,10 @@ use Rattle.pipe_consumer.specs.Streams.{passed_by}
 use Rattle.worker_router.specs.Calls.{after_offer, behind_pass, change, clashes, comes_by, consumer_at, first_flags, offered, passed_for, receiver, receives}
 use Rattle.worker_router.specs.declared.fault.RouterFault.{RouterFault}
 use Rattle.worker_router.specs.declared.fault.RouterFault.TheVariants as fault
-use Rattle.worker_router.specs.Tables.{AreDifferent, AreTables, FeedView, Outlet, Outline, checked, checked_with, id_of, outlet_of, offered_by, outline_of, owner_in, owns, places_of, router_of}
+use Rattle.worker_router.specs.Tables.{AreDifferent, AreTables, FeedView, Outlet, Outline, checked, checked_with, id_of, ids_in, is_listed, outlet_of, offered_by, outline_of, owner_in, owns, places_of, present, router_of}
 use Rattle.worker_router.proofs.ByIdLemmas.{same-bytes}
-use Rattle.worker_router.proofs.ListLemmas.{map-map, map-filter, find-map, is-some-map, present-map, all-over, all-under, all-map, any-find, find-test, guard, guarded, find-by, is}
-use Rattle.worker_router.proofs.TableLemmas.{and-join, and-split, is_fed, no-map, none-fed, owner-is, pid, place}
+use Rattle.worker_router.proofs.ListLemmas.{change-by, differ-filter, kept-present, map-map, map-filter, find-map, is-some-map, present-map, all-over, all-under, all-map, any-find, find-test, guard, guarded, find-by, is}
+use Rattle.worker_router.proofs.TableLemmas.{and-join, and-split, cid, is_fed, no-map, none-fed, owner-is, pid, place}
 
 abbrev pub fid : FeedView → Id
 fid f = f.source.id
@@ -77,9 +77,6 @@ all-found-at P t y x false o e p more = more e
 pub all-found : {X : Type 0} (P : X → Type 0) (t : X → Bool) (xs : List X) (x : X) → AllByRecursion P xs → find t xs ≡ Some x → P x
 all-found P t [] x h e = absurd (true≢false (sym (ap is_some e)))
 all-found P t (y ∷ xs) x h e = all-found-at P t y x (t y) (find t xs) e h.0 (all-found P t xs x h.1)
-
-no-any-at : (b a : Bool) → b ≡ false → a ≡ false → b || a ≡ false
-no-any-at b a p q = ap (λ c. c || a) p ∙ q
 
 -- the pairs of a Producer's Consumers
 pub places-are : (cs : List Sink) (id : Id) → places_of (map outlet_of cs) id ≡ map (λ (c : Sink). (c.id, c.transport)) (filter (is_of id) cs)
@@ -217,6 +214,20 @@ module _ (r : RouterState) (ts : List TransportAt) (fs : List FeedView) (cs : Li
     feed-list id f e =
         all-found (λ g. g.consumers ≡ places_of (map outlet_of cs) g.source.id) (λ g. same_id g.source.id id) fs f (all-over outline_of (λ p. p.consumers ≡ places_of (map outlet_of cs) p.id) fs t.lists) e
         ∙ ap (places_of (map outlet_of cs)) (id-same f.source.id id (find-test (λ g. same_id g.source.id id) fs f e))
+
+    -- these are its Consumers, and they are different
+    pub listed-own : (id : Id) (f : FeedView) → find (λ g. same_id g.source.id id) fs ≡ Some f → (change-one : Sink → Sink) → change (is_listed f.consumers) change-one cs ≡ change (is_of id) change-one cs
+    listed-own id f e change-one =
+        ap (λ l. change (is_listed l) change-one cs) (feed-list id f e)
+        ∙ change-by (is_listed (places_of (map outlet_of cs) id)) (is_of id) change-one cs
+        (all-over outlet_of (λ o. present (λ at. at.0) (places_of (map outlet_of cs) id) o.id ≡ is_fed id o) cs
+        (all-map (λ o. present cid (filter (is_fed id) (map outlet_of cs)) o.id ≡ is_fed id o) (λ o. present (λ at. at.0) (places_of (map outlet_of cs) id) o.id ≡ is_fed id o)
+        (λ o there. present-map place (λ at. at.0) (filter (is_fed id) (map outlet_of cs)) o.id ∙ there) (map outlet_of cs) (kept-present cid (is_fed id) (map outlet_of cs) t.consumers_differ)))
+
+    pub own-differ : (id : Id) (f : FeedView) → find (λ g. same_id g.source.id id) fs ≡ Some f → IsDistinct bytes_eq (ids_in f.consumers)
+    own-differ id f e =
+        subst (λ l. IsDistinct bytes_eq (ids_in l)) (sym (feed-list id f e))
+        (subst (IsDistinct bytes_eq) (sym (map-map place (λ at. at.0.0) (filter (is_fed id) (map outlet_of cs)))) (differ-filter cid (is_fed id) (map outlet_of cs) t.consumers_differ))
 
     list-at-all : (id : Id) (at : ℕ) (o : Option FeedView) → find (λ g. same_id g.source.id id) fs ≡ o
         → option_and_then (λ (f : FeedView). slice_get f.consumers at) o ≡ slice_get (places_of (map outlet_of cs) id) at

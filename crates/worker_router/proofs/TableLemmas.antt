@@ -1,5 +1,5 @@
 -- What the tables of a Router tell after a change.
-use Rattle.std.proofs.Common.{◌≡◌, ℕ, List, [], ◌∷◌, ◌++◌, ◌&&◌, ◌||◌, ◌==◌, Bool, true, false, cond, map, filter, find, Option, Some, None, is_some, bytes_eq, refl, sym, ap, subst, ◌∙◌, true≢false}
+use Rattle.std.proofs.Common.{◌≡◌, ℕ, List, [], ◌∷◌, ◌++◌, ◌&&◌, ◌||◌, ◌==◌, Bool, true, false, cond, not, map, filter, find, Option, Some, None, is_some, bytes_eq, refl, sym, ap, subst, ◌∙◌, true≢false}
 use Rattle.std.specs.List.{AllByRecursion, IsDistinct, list_any}
 use Rattle.std.specs.Map.{lookup}
 use Rattle.std.specs.Option.{option_map}
@@ -8,10 +8,10 @@ use Rattle.ms_base.specs.declared.id.Id.{Id}
 use Rattle.rtp_params.specs.declared.encoding.Encoding.{Encoding}
 use Rattle.rtp_params.specs.Encodings.{is_own}
 use Rattle.worker_router.specs.State.{same_id}
-use Rattle.worker_router.specs.Calls.{change}
+use Rattle.worker_router.specs.Calls.{change, without}
 use Rattle.worker_router.specs.Tables.{AreDifferent, AreTables, Outlet, Outline, id_of, owner_in, owns, places_of, present, same_place}
 use Rattle.worker_router.proofs.ByIdLemmas.{same-bytes, swapped}
-use Rattle.worker_router.proofs.ListLemmas.{map-map, find-map, present-map, all-under, all-filter, all-kept, all-map, all-both, all-push, find-test, find-push, guard, guarded, not-found, find-filter, find-by, founds, is, self-same}
+use Rattle.worker_router.proofs.ListLemmas.{filter-by, kept-by, kept-present, map-map, map-none, find-map, present-map, all-under, all-filter, all-kept, all-map, all-both, all-push, filter-same, filter-filter, find-test, find-push, guard, guarded, not-found, find-filter, find-by, founds, is, self-same}
 
 abbrev pub is_fed : Id → Outlet → Bool
 is_fed p c = same_id c.producer p
@@ -86,9 +86,6 @@ none-fed p ps [] h free = refl
 none-fed p ps (c ∷ cs) h free = none-fed-at p ps c (filter (is_fed p) cs) (is_fed p c) refl h.0 free (none-fed p ps cs h.1 free)
 
 -- ---- own SSRCs
-
-abbrev key-is : List ℕ × ℕ → (List ℕ × ℕ) → Bool
-key-is k other = same_place k other
 
 same-pair : (a b : List ℕ × ℕ) → same_place a b ≡ true → a ≡ b
 same-pair a b h =
@@ -205,28 +202,48 @@ module _ (ps : List Outline) (cs : List Outlet) (own : Ssrcs) (t : AreTables ps 
         places_differ = d3;
       }
 
--- ---- Consumers alone are taken out
+-- ---- a Producer less
 
-module _ (ps : List Outline) (cs : List Outlet) (own : Ssrcs) (t : AreTables ps cs own) (stays : Outlet → Bool) (d2 : AreDifferent cid (filter stays cs))
-    (there : AllByRecursion (λ c. present cid (filter stays cs) c.id ≡ stays c) cs) where
-  pub tables-fewer : AreTables (map (trimmed (filter stays cs)) ps) (filter stays cs) own
-  tables-fewer = record {
-    producers_differ = subst (IsDistinct bytes_eq) (sym (map-map (trimmed (filter stays cs)) (λ (p : Outline). p.id.0) ps)) t.producers_differ;
-    consumers_differ = d2;
-    lists =
-        all-under (trimmed (filter stays cs)) (λ p. p.consumers ≡ places_of (filter stays cs) p.id) ps
-        (all-map (λ p. p.consumers ≡ places_of cs p.id) (λ p. (trimmed (filter stays cs) p).consumers ≡ places_of (filter stays cs) p.id)
-        (λ p h. ap (filter (λ at. present cid (filter stays cs) at.0)) h ∙ list-kept (λ at. present cid (filter stays cs) at.0) stays p.id cs there) ps t.lists);
-    sources =
-        all-filter (λ c. present pid (map (trimmed (filter stays cs)) ps) c.producer ≡ true) stays cs
-        (all-map (λ c. present pid ps c.producer ≡ true) (λ c. present pid (map (trimmed (filter stays cs)) ps) c.producer ≡ true)
-        (λ c h. present-map (trimmed (filter stays cs)) pid ps c.producer ∙ h) cs t.sources);
-    leads = all-under (trimmed (filter stays cs)) (λ p. (ssrc : ℕ) → is_own p.encodings ssrc ≡ true → owner_in own p.transport ssrc ≡ Some p.id.0) ps t.leads;
-    owners = λ tr s.
-        t.owners tr s
-        ∙ sym (ap (option_map (λ (p : Outline). p.id.0)) (find-map (trimmed (filter stays cs)) (owns tr s) ps) ∙ map-id-map (trimmed (filter stays cs)) (λ p. refl) (find (owns tr s) ps));
-    places_differ = t.places_differ;
-  }
+module _ (ps : List Outline) (cs : List Outlet) (own : Ssrcs) (t : AreTables ps cs own) (i : Id) (new : Ssrcs) (d1 : AreDifferent pid (without (is pid i) ps))
+    (d2 : AreDifferent cid (without (is_fed i) cs)) (owned : new ≡ filter (λ e. present pid (without (is pid i) ps) (id_of e.1)) own) (d3 : IsDistinct same_place (map (λ e. e.0) new)) where
+  abbrev stays : Outlet → Bool
+  stays c = not (is_fed i c)
+
+  fed : AllByRecursion (λ c. stays c ≡ true → present pid (without (is pid i) ps) c.producer ≡ true) cs
+  fed =
+      all-map (λ c. present pid ps c.producer ≡ true) (λ c. stays c ≡ true → present pid (without (is pid i) ps) c.producer ≡ true)
+      (λ c there kept.
+      kept-by pid ps t.producers_differ (λ p. not (is pid i p)) c.producer there true
+      (λ p found. ap (λ b. not (bytes_eq b i.0)) (same-bytes p.id.0 c.producer.0 (find-test (is pid c.producer) ps p found)) ∙ kept)) cs t.sources
+
+  other-fed : (p : Id) → not (same_id p i) ≡ true → (c : Outlet) (b : Bool) → is_fed i c ≡ b → not b && is_fed p c ≡ is_fed p c
+  other-fed p other c true e =
+      let same : c.producer.0 ≡ i.0 = same-bytes c.producer.0 i.0 e in
+      sym (ap (λ b. bytes_eq b p.0) same ∙ (swapped i.0 p.0 ∙ is-false (same_id p i) other))
+    where
+      is-false : (b : Bool) → not b ≡ true → b ≡ false
+      is-false true h = absurd (true≢false (sym h))
+      is-false false h = refl
+  other-fed p other c false e = refl
+
+  -- the lists of the others are as they were
+  same-list : (p : Outline) → p.consumers ≡ places_of cs p.id → not (is pid i p) ≡ true → trimmed (filter stays cs) p ≡ p
+  same-list p list other =
+      let kept : filter (λ at. present cid (filter stays cs) at.0) (places_of cs p.id) ≡ places_of (filter stays cs) p.id =
+      list-kept (λ at. present cid (filter stays cs) at.0) stays p.id cs (kept-present cid stays cs t.consumers_differ)
+      in
+      let all : places_of (filter stays cs) p.id ≡ places_of cs p.id =
+      ap (map place) (filter-filter (is_fed p.id) stays cs ∙ filter-by (λ c. stays c && is_fed p.id c) (is_fed p.id) (λ c. other-fed p.id other c (is_fed i c) refl) cs)
+      in
+      ap (λ l. record p { consumers = l }) (ap (filter (λ at. present cid (filter stays cs) at.0)) list ∙ (kept ∙ (all ∙ sym list)))
+
+  pub tables-without-producer : AreTables (without (is pid i) ps) (without (is_fed i) cs) new
+  tables-without-producer =
+      subst (λ (l : List Outline). AreTables l (without (is_fed i) cs) new)
+      (map-none (trimmed (filter stays cs)) (without (is pid i) ps)
+      (all-kept (λ p. trimmed (filter stays cs) p ≡ p) (λ p. not (is pid i p)) ps
+      (all-map (λ p. p.consumers ≡ places_of cs p.id) (λ p. not (is pid i p) ≡ true → trimmed (filter stays cs) p ≡ p) same-list ps t.lists)))
+      (tables-kept ps cs own t (λ p. not (is pid i p)) d1 stays new fed d2 owned d3 (kept-present cid stays cs t.consumers_differ))
 
 -- ---- a Producer more
 
@@ -294,71 +311,125 @@ module _ (ps : List Outline) (cs : List Outlet) (own new : Ssrcs) (t : AreTables
     places_differ = d3;
   }
 
--- ---- a Consumer more
+-- ---- the list of one Producer is changed
 
-abbrev pub attached : Outlet → Outline → Outline
-attached c p = record p { consumers = p.consumers ++ place c ∷ [] }
+abbrev pub relisted : (List (Id × Id) → List (Id × Id)) → Outline → Outline
+relisted h p = record p { consumers = h p.consumers }
 
-abbrev pub attached-to : Outlet → List Outline → List Outline
-attached-to c ps = change (λ p. same_id p.id c.producer) (attached c) ps
+module _ (who : Id) (h : List (Id × Id) → List (Id × Id)) where
+  abbrev pub relisted-at : List Outline → List Outline
+  relisted-at ps = change (λ p. same_id p.id who) (relisted h) ps
 
-module _ (c : Outlet) where
-  ids-kept-at : (p : Outline) (b : Bool) → (cond b (attached c p) p).id ≡ p.id
+  ids-kept-at : (p : Outline) (b : Bool) → (cond b (relisted h p) p).id ≡ p.id
   ids-kept-at p true = refl
   ids-kept-at p false = refl
 
-  ids-kept : (ps : List Outline) → map pid (attached-to c ps) ≡ map pid ps
+  ids-kept : (ps : List Outline) → map pid (relisted-at ps) ≡ map pid ps
   ids-kept [] = refl
-  ids-kept (p ∷ ps) = let first = ids-kept-at p (same_id p.id c.producer) in let rest = ids-kept ps in (λ j. first j ∷ rest j)
+  ids-kept (p ∷ ps) = let first = ids-kept-at p (same_id p.id who) in let rest = ids-kept ps in (λ j. first j ∷ rest j)
 
-  list-with : (cs : List Outlet) (p : Outline) (b : Bool) → is_fed p.id c ≡ b → p.consumers ≡ places_of cs p.id → (cond b (attached c p) p).consumers ≡ places_of (cs ++ c ∷ []) (cond b (attached c p) p).id
-  list-with cs p true e h = ap (λ l. l ++ place c ∷ []) h ∙ sym (places-push p.id c cs ∙ ap (λ b. cond b (places_of cs p.id ++ place c ∷ []) (places_of cs p.id)) e)
-  list-with cs p false e h = h ∙ sym (places-push p.id c cs ∙ ap (λ b. cond b (places_of cs p.id ++ place c ∷ []) (places_of cs p.id)) e)
+  list-by : (cs : List Outlet) (p : Outline) (b : Bool) → cond b (h p.consumers) p.consumers ≡ places_of cs p.id → (cond b (relisted h p) p).consumers ≡ places_of cs (cond b (relisted h p) p).id
+  list-by cs p true is = is
+  list-by cs p false is = is
 
-  lists-with : (cs : List Outlet) (ps : List Outline) → AllByRecursion (λ p. p.consumers ≡ places_of cs p.id) ps → AllByRecursion (λ p. p.consumers ≡ places_of (cs ++ c ∷ []) p.id) (attached-to c ps)
-  lists-with cs [] h = h
-  lists-with cs (p ∷ ps) h = (list-with cs p (same_id p.id c.producer) (swapped c.producer.0 p.id.0) h.0, lists-with cs ps h.1)
+  -- each list tells the new Consumers, if it told the old ones
+  lists-by : (cs new : List Outlet)
+      → ((p : Outline) → p.consumers ≡ places_of cs p.id → (b : Bool) → same_id p.id who ≡ b → cond b (h p.consumers) p.consumers ≡ places_of new p.id)
+      → (ps : List Outline) → AllByRecursion (λ p. p.consumers ≡ places_of cs p.id) ps → AllByRecursion (λ p. p.consumers ≡ places_of new p.id) (relisted-at ps)
+  lists-by cs new each [] all = all
+  lists-by cs new each (p ∷ ps) all = (list-by new p (same_id p.id who) (each p all.0 (same_id p.id who) refl), lists-by cs new each ps all.1)
 
   module _ (own : Ssrcs) where
-    lead-with : (p : Outline) (b : Bool) → ((ssrc : ℕ) → is_own p.encodings ssrc ≡ true → owner_in own p.transport ssrc ≡ Some p.id.0)
-        → (ssrc : ℕ) → is_own (cond b (attached c p) p).encodings ssrc ≡ true → owner_in own (cond b (attached c p) p).transport ssrc ≡ Some (cond b (attached c p) p).id.0
-    lead-with p true h = h
-    lead-with p false h = h
+    lead-by-list : (p : Outline) (b : Bool) → ((ssrc : ℕ) → is_own p.encodings ssrc ≡ true → owner_in own p.transport ssrc ≡ Some p.id.0)
+        → (ssrc : ℕ) → is_own (cond b (relisted h p) p).encodings ssrc ≡ true → owner_in own (cond b (relisted h p) p).transport ssrc ≡ Some (cond b (relisted h p) p).id.0
+    lead-by-list p true lead = lead
+    lead-by-list p false lead = lead
 
-    leads-with : (ps : List Outline) → AllByRecursion (λ p. (ssrc : ℕ) → is_own p.encodings ssrc ≡ true → owner_in own p.transport ssrc ≡ Some p.id.0) ps
-        → AllByRecursion (λ p. (ssrc : ℕ) → is_own p.encodings ssrc ≡ true → owner_in own p.transport ssrc ≡ Some p.id.0) (attached-to c ps)
-    leads-with [] h = h
-    leads-with (p ∷ ps) h = (lead-with p (same_id p.id c.producer) h.0, leads-with ps h.1)
+    leads-by : (ps : List Outline) → AllByRecursion (λ p. (ssrc : ℕ) → is_own p.encodings ssrc ≡ true → owner_in own p.transport ssrc ≡ Some p.id.0) ps
+        → AllByRecursion (λ p. (ssrc : ℕ) → is_own p.encodings ssrc ≡ true → owner_in own p.transport ssrc ≡ Some p.id.0) (relisted-at ps)
+    leads-by [] all = all
+    leads-by (p ∷ ps) all = (lead-by-list p (same_id p.id who) all.0, leads-by ps all.1)
 
-  owner-with-at : (tr : Id) (s : ℕ) (p : Outline) (b k : Bool) (o q : Option Outline) → owns tr s p ≡ k → option_map (λ (x : Outline). x.id.0) o ≡ option_map (λ (x : Outline). x.id.0) q
-      → option_map (λ (x : Outline). x.id.0) (cond (owns tr s (cond b (attached c p) p)) (Some (cond b (attached c p) p)) o) ≡ option_map (λ (x : Outline). x.id.0) (cond k (Some p) q)
-  owner-with-at tr s p true true o q e more = ap (λ k. option_map (λ (x : Outline). x.id.0) (cond k (Some (attached c p)) o)) e
-  owner-with-at tr s p false true o q e more = ap (λ k. option_map (λ (x : Outline). x.id.0) (cond k (Some p) o)) e
-  owner-with-at tr s p true false o q e more = ap (λ k. option_map (λ (x : Outline). x.id.0) (cond k (Some (attached c p)) o)) e ∙ more
-  owner-with-at tr s p false false o q e more = ap (λ k. option_map (λ (x : Outline). x.id.0) (cond k (Some p) o)) e ∙ more
+  owner-by-at : (tr : Id) (s : ℕ) (p : Outline) (b k : Bool) (o q : Option Outline) → owns tr s p ≡ k → option_map (λ (x : Outline). x.id.0) o ≡ option_map (λ (x : Outline). x.id.0) q
+      → option_map (λ (x : Outline). x.id.0) (cond (owns tr s (cond b (relisted h p) p)) (Some (cond b (relisted h p) p)) o) ≡ option_map (λ (x : Outline). x.id.0) (cond k (Some p) q)
+  owner-by-at tr s p true true o q e more = ap (λ k. option_map (λ (x : Outline). x.id.0) (cond k (Some (relisted h p)) o)) e
+  owner-by-at tr s p false true o q e more = ap (λ k. option_map (λ (x : Outline). x.id.0) (cond k (Some p) o)) e
+  owner-by-at tr s p true false o q e more = ap (λ k. option_map (λ (x : Outline). x.id.0) (cond k (Some (relisted h p)) o)) e ∙ more
+  owner-by-at tr s p false false o q e more = ap (λ k. option_map (λ (x : Outline). x.id.0) (cond k (Some p) o)) e ∙ more
 
-  owner-with : (tr : Id) (s : ℕ) (ps : List Outline) → option_map (λ (x : Outline). x.id.0) (find (owns tr s) (attached-to c ps)) ≡ option_map (λ (x : Outline). x.id.0) (find (owns tr s) ps)
-  owner-with tr s [] = refl
-  owner-with tr s (p ∷ ps) = owner-with-at tr s p (same_id p.id c.producer) (owns tr s p) (find (owns tr s) (attached-to c ps)) (find (owns tr s) ps) refl (owner-with tr s ps)
+  owner-by-list : (tr : Id) (s : ℕ) (ps : List Outline) → option_map (λ (x : Outline). x.id.0) (find (owns tr s) (relisted-at ps)) ≡ option_map (λ (x : Outline). x.id.0) (find (owns tr s) ps)
+  owner-by-list tr s [] = refl
+  owner-by-list tr s (p ∷ ps) = owner-by-at tr s p (same_id p.id who) (owns tr s p) (find (owns tr s) (relisted-at ps)) (find (owns tr s) ps) refl (owner-by-list tr s ps)
 
   present-ids : (ps : List Outline) (i : Id) → present pid ps i ≡ present (λ j. j) (map pid ps) i
   present-ids ps i = sym (present-map pid (λ j. j) ps i)
 
-  present-with : (ps : List Outline) (i : Id) → present pid (attached-to c ps) i ≡ present pid ps i
-  present-with ps i = present-ids (attached-to c ps) i ∙ (ap (λ is. present (λ j. j) is i) (ids-kept ps) ∙ sym (present-ids ps i))
+  present-by : (ps : List Outline) (i : Id) → present pid (relisted-at ps) i ≡ present pid ps i
+  present-by ps i = present-ids (relisted-at ps) i ∙ (ap (λ is. present (λ j. j) is i) (ids-kept ps) ∙ sym (present-ids ps i))
 
-  pub tables-with-consumer : (ps : List Outline) (cs : List Outlet) (own : Ssrcs) → AreTables ps cs own → present pid ps c.producer ≡ true → AreDifferent cid (cs ++ c ∷ [])
-      → AreTables (attached-to c ps) (cs ++ c ∷ []) own
-  tables-with-consumer ps cs own t fed d2 = record {
+  -- the Consumers are others, and the one list with them
+  tables-relisted : (ps : List Outline) (cs new : List Outlet) (own : Ssrcs) → AreTables ps cs own → AreDifferent cid new → AllByRecursion (λ c. present pid ps c.producer ≡ true) new
+      → ((p : Outline) → p.consumers ≡ places_of cs p.id → (b : Bool) → same_id p.id who ≡ b → cond b (h p.consumers) p.consumers ≡ places_of new p.id) → AreTables (relisted-at ps) new own
+  tables-relisted ps cs new own t differ fed each = record {
     producers_differ =
         subst (IsDistinct bytes_eq)
-        (sym (map-map pid (λ (i : Id). i.0) ps) ∙ (ap (map (λ (i : Id). i.0)) (sym (ids-kept ps)) ∙ map-map pid (λ (i : Id). i.0) (attached-to c ps))) t.producers_differ;
-    consumers_differ = d2;
-    lists = lists-with cs ps t.lists;
-    sources =
-        all-map (λ o. present pid ps o.producer ≡ true) (λ o. present pid (attached-to c ps) o.producer ≡ true) (λ o h. present-with ps o.producer ∙ h) (cs ++ c ∷ [])
-        (all-push (λ o. present pid ps o.producer ≡ true) cs c t.sources fed);
-    leads = leads-with own ps t.leads;
-    owners = λ tr s. t.owners tr s ∙ sym (owner-with tr s ps);
+        (sym (map-map pid (λ (i : Id). i.0) ps) ∙ (ap (map (λ (i : Id). i.0)) (sym (ids-kept ps)) ∙ map-map pid (λ (i : Id). i.0) (relisted-at ps))) t.producers_differ;
+    consumers_differ = differ;
+    lists = lists-by cs new each ps t.lists;
+    sources = all-map (λ c. present pid ps c.producer ≡ true) (λ c. present pid (relisted-at ps) c.producer ≡ true) (λ c there. present-by ps c.producer ∙ there) new fed;
+    leads = leads-by own ps t.leads;
+    owners = λ tr s. t.owners tr s ∙ sym (owner-by-list tr s ps);
     places_differ = t.places_differ;
   }
+
+-- ---- a Consumer more
+
+abbrev pub with-place : Id × Id → List (Id × Id) → List (Id × Id)
+with-place at ats = ats ++ at ∷ []
+
+module _ (c : Outlet) where
+  list-with : (cs : List Outlet) (p : Outline) (b : Bool) → is_fed p.id c ≡ b → p.consumers ≡ places_of cs p.id → cond b (with-place (place c) p.consumers) p.consumers ≡ places_of (cs ++ c ∷ []) p.id
+  list-with cs p true e list = ap (with-place (place c)) list ∙ sym (places-push p.id c cs ∙ ap (λ b. cond b (places_of cs p.id ++ place c ∷ []) (places_of cs p.id)) e)
+  list-with cs p false e list = list ∙ sym (places-push p.id c cs ∙ ap (λ b. cond b (places_of cs p.id ++ place c ∷ []) (places_of cs p.id)) e)
+
+  pub tables-with-consumer : (ps : List Outline) (cs : List Outlet) (own : Ssrcs) → AreTables ps cs own → present pid ps c.producer ≡ true → AreDifferent cid (cs ++ c ∷ [])
+      → AreTables (relisted-at c.producer (with-place (place c)) ps) (cs ++ c ∷ []) own
+  tables-with-consumer ps cs own t fed differ =
+      tables-relisted c.producer (with-place (place c)) ps cs (cs ++ c ∷ []) own t differ (all-push (λ o. present pid ps o.producer ≡ true) cs c t.sources fed)
+      (λ p list b e. list-with cs p b (swapped c.producer.0 p.id.0 ∙ e) list)
+
+-- ---- a Consumer less
+
+abbrev pub without-place : Id → List (Id × Id) → List (Id × Id)
+without-place i ats = without (λ at. same_id at.0 i) ats
+
+module _ (ps : List Outline) (cs : List Outlet) (own : Ssrcs) (t : AreTables ps cs own) (i : Id) (c : Outlet) (found : find (is cid i) cs ≡ Some c)
+    (differ : AreDifferent cid (without (is cid i) cs)) where
+  -- no other has the id
+  only : AllByRecursion (λ d. is cid i d ≡ true → d ≡ c) cs
+  only =
+      all-map (λ d. find (is cid d.id) cs ≡ Some d) (λ d. is cid i d ≡ true → d ≡ c)
+      (λ d there named.
+      let same : d.id ≡ i = ap id_of (same-bytes d.id.0 i.0 named) in
+      let both : Some d ≡ Some c = sym there ∙ (ap (λ (k : Id). find (is cid k) cs) same ∙ found) in
+      cc) cs (founds cid cs t.consumers_differ)
+
+  stays-elsewhere : (p : Id) → is_fed p c ≡ false → (d : Outlet) (b : Bool) → is cid i d ≡ b → (is cid i d ≡ true → d ≡ c) → not b && is_fed p d ≡ is_fed p d
+  stays-elsewhere p other d true e same = sym (ap (is_fed p) (same e) ∙ other)
+  stays-elsewhere p other d false e same = refl
+
+  list-without : (p : Outline) (b : Bool) → is_fed p.id c ≡ b → p.consumers ≡ places_of cs p.id → cond b (without-place i p.consumers) p.consumers ≡ places_of (without (is cid i) cs) p.id
+  list-without p true e list =
+      ap (without-place i) list
+      ∙ list-kept (λ at. not (same_id at.0 i)) (λ d. not (is cid i d)) p.id cs
+      (all-map (λ d. is cid i d ≡ true → d ≡ c) (λ d. not (same_id d.id i) ≡ not (is cid i d)) (λ d same. refl) cs only)
+  list-without p false e list =
+      list
+      ∙ sym (ap (map place) (filter-filter (is_fed p.id) (λ d. not (is cid i d)) cs
+      ∙ filter-same (λ d. not (is cid i d) && is_fed p.id d) (is_fed p.id) cs
+      (all-map (λ d. is cid i d ≡ true → d ≡ c) (λ d. (not (is cid i d) && is_fed p.id d) ≡ is_fed p.id d) (λ d same. stays-elsewhere p.id e d (is cid i d) refl same) cs only)))
+
+  pub tables-without-consumer : AreTables (relisted-at c.producer (without-place i) ps) (without (is cid i) cs) own
+  tables-without-consumer =
+      tables-relisted c.producer (without-place i) ps cs (without (is cid i) cs) own t differ
+      (all-filter (λ d. present pid ps d.producer ≡ true) (λ d. not (is cid i d)) cs t.sources) (λ p list b e. list-without p b (swapped c.producer.0 p.id.0 ∙ e) list)

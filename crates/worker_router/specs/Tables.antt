@@ -9,6 +9,7 @@ use Rattle.rtp_extension.specs.declared.mapped.Mapped.{Mapped}
 use Rattle.rtp_params.specs.declared.encoding.Encoding.{Encoding}
 use Rattle.rtp_params.specs.Encodings.{is_own}
 use Rattle.simple_consumer.specs.Sending.{Offer, Sending, offer}
+use Rattle.worker_router.specs.Calls.{without}
 use Rattle.worker_router.specs.State.{RouterState, Source, Sink, TransportAt, same_id}
 use Rattle.worker_router.specs.declared.fault.RouterFault.{RouterFault}
 use Rattle.worker_router.specs.declared.fault.RouterFault.TheVariants as fault
@@ -63,6 +64,18 @@ streams_in (streams.Pipe all) = all
 pub record FeedView : Type 0 where
   pub source : Source
   pub consumers : List (Id × Id)
+
+-- the ids of Consumers that stand with their transports
+abbrev pub ids_in : List (Id × Id) → List (List ℕ)
+ids_in places = map (λ place. place.0.0) places
+
+-- a Consumer stands among these
+abbrev pub is_listed : List (Id × Id) → Sink → Bool
+is_listed places c = present (λ place. place.0) places c.id
+
+-- without the Consumer of this id
+abbrev pub detached : Id → FeedView → FeedView
+detached id f = record f { consumers = without (λ place. same_id place.0 id) f.consumers }
 
 -- with those Consumers alone that are there
 abbrev pub with_present : List Sink → FeedView → FeedView

@@ -90,7 +90,8 @@ impl WorkerRouter {
         ensures { self.new ≡ without_producer self.old id }
     {
         self.producers.remove(id);
-        keep_tables(&mut self.producers, &mut self.consumers, &mut self.ssrcs);
+        self.consumers.remove_of(id);
+        keep_owned(&mut self.ssrcs, &self.producers);
     }
 
     /// Closes a transport as [`WorkerRouter::remove_transport`] does, and gives the Consumers that are told so, as
@@ -137,11 +138,12 @@ impl WorkerRouter {
         ensures ok { OnOk result (self.new ≡ without_consumer self.old id) }
         ensures err { OnErr result (self.new ≡ self.old) }
     {
-        if !self.consumers.has(id) {
+        let Some(consumer) = self.consumers.get(id) else {
             return Err(RouterFault::Missing);
-        }
+        };
+        let producer = consumer.producer();
         self.consumers.remove(id);
-        self.producers.keep_present(&self.consumers);
+        self.producers.detach(producer, id);
         Ok(())
     }
 }

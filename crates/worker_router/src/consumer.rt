@@ -4,7 +4,7 @@ ghost use Rattle.std.specs.Prelude.{◌≡◌, ◌<◌, ◌≤◌, length, take,
 ghost use Rattle.rtp_packet.specs.Packet.{IsPacket};
 ghost use Rattle.simple_consumer.specs.Sending.{offer};
 ghost use Rattle.pipe_consumer.specs.Streams.{passed_by};
-ghost use Rattle.worker_router.specs.State.{goes_over, is_of};
+ghost use Rattle.worker_router.specs.State.{goes_over};
 ghost use Rattle.worker_router.specs.Calls.{after_offer, connect_one, pause_one, pause_source_of, set_flags};
 ghost use Rattle.worker_router.specs.Tables.{outlet_of};
 
@@ -98,17 +98,15 @@ impl Consumer {
         }
     }
 
-    /// Tells it that its Producer is paused or not, if that is this one.
-    pub(crate) fn pause_source(&mut self, producer: Id, paused: bool)
-        ensures state { self.new ≡ (if is_of producer self.old then pause_source_of paused self.old else self.old) }
+    /// Tells it that its Producer is paused or not.
+    pub(crate) fn pause_source(&mut self, paused: bool)
+        ensures state { self.new ≡ pause_source_of paused self.old }
         ensures outlet { outlet_of self.new ≡ outlet_of self.old }
     {
-        if self.producer == producer {
-            self.set_flags(Flags {
-                producer_paused: paused,
-                ..self.flags
-            });
-        }
+        self.set_flags(Flags {
+            producer_paused: paused,
+            ..self.flags
+        });
     }
 
     /// Pauses or resumes it.

@@ -1,12 +1,14 @@
 //! The Consumers of a Router.
 
 ghost use Rattle.std.specs.Prelude.{◌≡◌, ◌<◌, ◌≤◌, length, take, drop, not, map, filter, find, is_some, Some, None, option_map, option_and_then, ◌&&◌, IfSome, IfNone};
+ghost use Rattle.std.specs.List.{IsDistinct};
+ghost use Rattle.std.specs.Str.{bytes_eq};
 ghost use Rattle.rtp_packet.specs.Packet.{IsPacket};
 ghost use Rattle.simple_consumer.specs.Sending.{offer};
 ghost use Rattle.pipe_consumer.specs.Streams.{passed_by};
 ghost use Rattle.worker_router.specs.State.{same_id, goes_over, is_of};
 ghost use Rattle.worker_router.specs.Calls.{after_offer, change, connect_one, pause_one, pause_source_of, without};
-ghost use Rattle.worker_router.specs.Tables.{AreDifferent, outlet_of, present, offered_by};
+ghost use Rattle.worker_router.specs.Tables.{AreDifferent, ids_in, is_listed, outlet_of, present, offered_by};
 
 use crate::by_id::ById;
 use crate::consumer::Consumer;
@@ -40,15 +42,25 @@ impl ById<Consumer> {
         });
     }
 
-    /// Tells those of a Producer that it is paused or not.
-    pub(crate) fn pause_source(&mut self, producer: Id, paused: bool)
-        ensures state { self.new ≡ change (is_of producer) (pause_source_of paused) self.old }
+    /// Tells those of a Producer, which stand in its list, that it is paused or not.
+    pub(crate) fn pause_sources(&mut self, own: &[(Id, Id)], paused: bool)
+        requires { IsDistinct bytes_eq (ids_in own.now) }
+        ensures state { self.new ≡ change (is_listed own.now) (pause_source_of paused) self.old }
         ensures outlets { map outlet_of self.new ≡ map outlet_of self.old }
     {
-        self.items.retain(|_key, consumer| {
-            consumer.pause_source(producer, paused);
-            true
-        });
+        for place in own {
+            self.pause_source(place.0, paused);
+        }
+    }
+
+    fn pause_source(&mut self, id: Id, paused: bool)
+        ensures state { self.new ≡ change (λ c. same_id c.id id) (pause_source_of paused) self.old }
+        ensures outlets { map outlet_of self.new ≡ map outlet_of self.old }
+    {
+        let Some(consumer) = self.items.get_mut(&id.0) else {
+            return;
+        };
+        consumer.pause_source(paused);
     }
 
     /// Takes out those over a transport.
@@ -58,6 +70,15 @@ impl ById<Consumer> {
     {
         self.items
             .retain(|_key, consumer| consumer.transport() != transport);
+    }
+
+    /// Takes out those of a Producer.
+    pub(crate) fn remove_of(&mut self, producer: Id)
+        ensures state { self.new ≡ without (is_of producer) self.old }
+        ensures different { AreDifferent (λ c. c.id) self.new }
+    {
+        self.items
+            .retain(|_key, consumer| consumer.producer() != producer);
     }
 
     /// Keeps those whose Producers are there.

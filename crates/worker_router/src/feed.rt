@@ -5,7 +5,7 @@ ghost use Rattle.producer.specs.Received.{received};
 ghost use Rattle.rtp_params.specs.Readable.{Each};
 ghost use Rattle.worker_router.specs.State.{same_id};
 ghost use Rattle.worker_router.specs.Calls.{receives, set_paused};
-ghost use Rattle.worker_router.specs.Tables.{with_present};
+ghost use Rattle.worker_router.specs.Tables.{detached, with_present};
 
 use crate::by_id::{ById, HasId};
 use crate::consumer::Consumer;
@@ -100,6 +100,13 @@ impl Feed {
         self.consumers.get(place).copied()
     }
 
+    /// Its Consumers in order of making, each with its transport.
+    pub(crate) fn consumers(&self) -> &[(Id, Id)]
+        ensures { result.now ≡ self.now.consumers }
+    {
+        self.consumers.as_slice()
+    }
+
     /// The ids of its Consumers.
     pub(crate) fn consumer_ids(&self, alloc: Global) -> Result<Vec<Id>, NoMemory>
         ensures { IfOk result (λ ids. ids.items ≡ map (λ place. place.0) self.now.consumers) }
@@ -126,6 +133,13 @@ impl Feed {
     {
         self.consumers.push((consumer, transport))?;
         Ok(())
+    }
+
+    /// Takes a Consumer out of its own.
+    pub(crate) fn detach(&mut self, consumer: Id)
+        ensures { self.new ≡ detached consumer self.old }
+    {
+        self.consumers.retain(|place| place.0 != consumer);
     }
 
     /// Keeps those Consumers that are there.

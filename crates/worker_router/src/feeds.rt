@@ -1,9 +1,9 @@
 //! The Producers of a Router.
 
-ghost use Rattle.std.specs.Prelude.{◌≡◌, ◌∷◌, ◌++◌, [], map, find, option_map, OnOk, OnErr, IfNone};
+ghost use Rattle.std.specs.Prelude.{◌≡◌, ◌∷◌, ◌++◌, [], map, OnOk, OnErr};
 ghost use Rattle.worker_router.specs.State.{same_id, is_on};
 ghost use Rattle.worker_router.specs.Calls.{change, set_paused, without};
-ghost use Rattle.worker_router.specs.Tables.{AreDifferent, outline_of, with_present};
+ghost use Rattle.worker_router.specs.Tables.{AreDifferent, detached, outline_of, with_present};
 
 use crate::by_id::ById;
 use crate::consumer::Consumer;
@@ -11,19 +11,15 @@ use crate::feed::Feed;
 use ms_base::{Id, NoMemory};
 
 impl ById<Feed> {
-    /// Pauses or resumes the Producer of this id, and tells whether it was paused, if it is there.
-    pub(crate) fn set_paused(&mut self, id: Id, paused: bool) -> Option<bool>
-        ensures before { result ≡ option_map (λ f. f.source.stream.paused) (find (λ f. same_id f.source.id id) self.old) }
+    /// Pauses or resumes the Producer of this id, where it is there.
+    pub(crate) fn set_paused(&mut self, id: Id, paused: bool)
         ensures state { self.new ≡ change (λ f. same_id f.source.id id) (λ f. record f { source = set_paused paused f.source }) self.old }
         ensures outlines { map outline_of self.new ≡ map outline_of self.old }
-        ensures untouched { IfNone result (self.new ≡ self.old) }
     {
         let Some(feed) = self.items.get_mut(&id.0) else {
-            return None;
+            return;
         };
-        let before = feed.is_paused();
         feed.set_paused(paused);
-        Some(before)
     }
 
     /// Adds a Consumer to those of the Producer of this id, where that is there.
@@ -40,6 +36,16 @@ impl ById<Feed> {
             return Ok(());
         };
         feed.attach(consumer, transport)
+    }
+
+    /// Takes a Consumer out of those of the Producer of this id, where that is there.
+    pub(crate) fn detach(&mut self, producer: Id, consumer: Id)
+        ensures { self.new ≡ change (λ f. same_id f.source.id producer) (detached consumer) self.old }
+    {
+        let Some(feed) = self.items.get_mut(&producer.0) else {
+            return;
+        };
+        feed.detach(consumer);
     }
 
     /// Takes out those over a transport.

@@ -333,10 +333,12 @@ impl WorkerRouter {
         ensures ok { OnOk result (self.new ≡ with_producer_paused self.old id paused) }
         ensures err { OnErr result (self.new ≡ self.old) }
     {
-        let Some(before) = self.producers.set_paused(id, paused) else {
+        let Some(feed) = self.producers.get(id) else {
             return Err(RouterFault::Missing);
         };
-        self.consumers.pause_source(id, paused);
+        let before = feed.is_paused();
+        self.consumers.pause_sources(feed.consumers(), paused);
+        self.producers.set_paused(id, paused);
         Ok(before != paused)
     }
 

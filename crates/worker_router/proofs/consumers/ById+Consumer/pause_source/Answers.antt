@@ -1,27 +1,26 @@
-use Rattle.std.proofs.Common.{rules, refl, cond, map, ap, ◌∙◌}
-use Rattle.std.proofs.lemmas.Map.Made.{map_same_pairs}
-use Rattle.worker_router.specs.State.{Sink, is_of}
+use Rattle.std.proofs.Common.{refl, sym, ap, map, ◌∙◌}
+use Rattle.worker_router.specs.State.{Sink, same_id}
 use Rattle.worker_router.specs.Calls.{pause_source_of}
 use Rattle.worker_router.specs.Tables.{outlet_of}
-use Rattle.worker_router.proofs.ByIdLemmas.{rewritten}
-use Rattle.worker_router.proofs.ListLemmas.{map-change, change-at}
+use Rattle.worker_router.proofs.ByIdLemmas.{nobody, written, written-under}
+use Rattle.worker_router.proofs.ListLemmas.{map-change}
 use Rattle.worker_router.proofs.consumers.ById+Consumer.pause_source.Goals as goal
 
-pub invariant_of-self : goal.invariant_of-self
-invariant_of-self c =
-    let put = map_same_pairs _ (λ s. cond (is_of c.args.producer s) (pause_source_of c.args.paused s) s) _ (λ k v b w f t. search rules) c.self.inside.items.entries c.retain.new.self.entries c.retain.ensures.filtered in
+pub returns-in_default-clause-state : goal.returns-in_default-clause-state
+returns-in_default-clause-state c =
+    nobody (λ (s : Sink). s.id) (pause_source_of c.args.paused) c.args.id c.self.inside.items c.get_mut.follows.lender-at-none c.args.self.now c.self.invariant.keys c.self.view_is c.in_default.ensures.value c.get_mut.follows.holds-at-none
+
+pub invariant_of-self-2 : goal.invariant_of-self-2
+invariant_of-self-2 c =
     record {
-      keys = (rewritten (λ (s : Sink). s.id) (λ s. cond (is_of c.args.producer s) (pause_source_of c.args.paused s) s) (λ s. change-at (λ (x : Sink). x.id) (is_of c.args.producer) (pause_source_of c.args.paused) (λ x. refl) s (is_of c.args.producer s)) c.self.inside.items c.retain.new.self c.args.self.now c.self.invariant.keys c.self.view_is put).0;
-      different = c.retain.ensures.unique;
+      keys = written-under (λ (s : Sink). s.id) (pause_source_of c.args.paused) c.args.id c.self.inside.items (c.get_mut.follows.lender c.pause_source.new.self) c.args.self.now c.in-Some.consumer.now c.pause_source.new.self c.self.invariant.keys c.self.view_is c.get_mut.ensures.unique (sym c.in-Some.ensures.value) (c.get_mut.follows.holds c.pause_source.new.self).0 (ap (λ (s : Sink). s.id.0) c.pause_source.ensures.state);
+      different = (c.get_mut.follows.holds c.pause_source.new.self).4;
     }
 
 pub returns-clause-state : goal.returns-clause-state
-returns-clause-state c =
-    let put = map_same_pairs _ (λ s. cond (is_of c.args.producer s) (pause_source_of c.args.paused s) s) _ (λ k v b w f t. search rules) c.self.inside.items.entries c.retain.new.self.entries c.retain.ensures.filtered in
-    (rewritten (λ (s : Sink). s.id) (λ s. cond (is_of c.args.producer s) (pause_source_of c.args.paused s) s) (λ s. change-at (λ (x : Sink). x.id) (is_of c.args.producer) (pause_source_of c.args.paused) (λ x. refl) s (is_of c.args.producer s)) c.self.inside.items c.retain.new.self c.args.self.now c.self.invariant.keys c.self.view_is put).1
+returns-clause-state c = written (λ (s : Sink). s.id) (pause_source_of c.args.paused) c.args.id c.self.inside.items (c.get_mut.follows.lender c.pause_source.new.self) c.args.self.now c.in-Some.consumer.now c.pause_source.new.self c.self.invariant.keys c.self.view_is c.get_mut.ensures.unique (sym c.in-Some.ensures.value) (c.get_mut.follows.holds c.pause_source.new.self).0 c.pause_source.ensures.state
 
 pub returns-clause-outlets : goal.returns-clause-outlets
 returns-clause-outlets c =
-    let put = map_same_pairs _ (λ s. cond (is_of c.args.producer s) (pause_source_of c.args.paused s) s) _ (λ k v b w f t. search rules) c.self.inside.items.entries c.retain.new.self.entries c.retain.ensures.filtered in
-    ap (map outlet_of) ((rewritten (λ (s : Sink). s.id) (λ s. cond (is_of c.args.producer s) (pause_source_of c.args.paused s) s) (λ s. change-at (λ (x : Sink). x.id) (is_of c.args.producer) (pause_source_of c.args.paused) (λ x. refl) s (is_of c.args.producer s)) c.self.inside.items c.retain.new.self c.args.self.now c.self.invariant.keys c.self.view_is put).1)
-    ∙ map-change outlet_of (is_of c.args.producer) (pause_source_of c.args.paused) (λ x. refl) c.args.self.now
+    ap (map outlet_of) (written (λ (s : Sink). s.id) (pause_source_of c.args.paused) c.args.id c.self.inside.items (c.get_mut.follows.lender c.pause_source.new.self) c.args.self.now c.in-Some.consumer.now c.pause_source.new.self c.self.invariant.keys c.self.view_is c.get_mut.ensures.unique (sym c.in-Some.ensures.value) (c.get_mut.follows.holds c.pause_source.new.self).0 c.pause_source.ensures.state)
+    ∙ map-change outlet_of (λ s. same_id s.id c.args.id) (pause_source_of c.args.paused) (λ x. refl) c.args.self.now

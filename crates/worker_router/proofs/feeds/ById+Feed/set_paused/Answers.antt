@@ -1,14 +1,10 @@
-use Rattle.std.proofs.Common.{Some, refl, map, sym, ap, option_map, ◌∙◌}
+use Rattle.std.proofs.Common.{refl, map, sym, ap, ◌∙◌}
 use Rattle.worker_router.specs.Calls.{set_paused}
 use Rattle.worker_router.specs.State.{same_id}
 use Rattle.worker_router.specs.Tables.{FeedView, outline_of}
 use Rattle.worker_router.proofs.ListLemmas.{map-change}
-use Rattle.worker_router.proofs.ByIdLemmas.{found, nobody, written, written-under}
+use Rattle.worker_router.proofs.ByIdLemmas.{nobody, written, written-under}
 use Rattle.worker_router.proofs.feeds.ById+Feed.set_paused.Goals as goal
-
-pub returns-in_default-clause-before : goal.returns-in_default-clause-before
-returns-in_default-clause-before c =
-    ap (option_map (λ (f : FeedView). f.source.stream.paused)) (c.in_default.ensures.value ∙ found (λ (f : FeedView). f.source.id) c.args.id c.self.inside.items c.args.self.now c.self.invariant.keys c.self.view_is)
 
 pub returns-in_default-clause-state : goal.returns-in_default-clause-state
 returns-in_default-clause-state c =
@@ -20,11 +16,6 @@ invariant_of-self-2 c =
       keys = written-under (λ (f : FeedView). f.source.id) (λ f. record f { source = set_paused c.args.paused f.source }) c.args.id c.self.inside.items (c.get_mut.follows.lender c.set_paused.new.self) c.args.self.now c.in-Some.feed.now c.set_paused.new.self c.self.invariant.keys c.self.view_is c.get_mut.ensures.unique (sym c.in-Some.ensures.value) (c.get_mut.follows.holds c.set_paused.new.self).0 (ap (λ (f : FeedView). f.source.id.0) c.set_paused.ensures);
       different = (c.get_mut.follows.holds c.set_paused.new.self).4;
     }
-
-pub returns-clause-before : goal.returns-clause-before
-returns-clause-before c =
-    ap Some c.is_paused-before.ensures
-    ∙ ap (option_map (λ (f : FeedView). f.source.stream.paused)) (c.in-Some.ensures.value ∙ found (λ (f : FeedView). f.source.id) c.args.id c.self.inside.items c.args.self.now c.self.invariant.keys c.self.view_is)
 
 pub returns-clause-state : goal.returns-clause-state
 returns-clause-state c = written (λ (f : FeedView). f.source.id) (λ f. record f { source = set_paused c.args.paused f.source }) c.args.id c.self.inside.items (c.get_mut.follows.lender c.set_paused.new.self) c.args.self.now c.in-Some.feed.now c.set_paused.new.self c.self.invariant.keys c.self.view_is c.get_mut.ensures.unique (sym c.in-Some.ensures.value) (c.get_mut.follows.holds c.set_paused.new.self).0 c.set_paused.ensures
