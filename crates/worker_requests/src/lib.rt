@@ -16,6 +16,7 @@ mod tuple_notice;
 pub use accepted::{Accepted, produced};
 pub use asked::{Asked, ConsumerIds, ProducerIds, TransportIds, read_asked};
 pub use content::{ConsumeContent, PipeContent, PlainContent, ProduceContent};
+pub use members::{Members, needed, object_in, read_bool, read_ip, read_port_from};
 pub use notice::{WorkerNotice, write_worker_notice};
 pub use read::{
     connect_content, consume_content, is_direct, pipe_content, plain_content, produce_content,

@@ -1,24 +1,24 @@
 ghost use Rattle.std.specs.Prelude.{◌≡◌, Some, None, IfOk, IfErr, option_map, option_and_then};
 ghost use Rattle.serde_json.specs.Find.{get_member, as_object};
 ghost use Rattle.serde_json.specs.View.{view, members_view};
-ghost use Rattle.rtp_params.specs.Reading.{bool_of};
+ghost use Rattle.rtp_params.specs.Reading.{bool_of, number_of};
 ghost use Rattle.worker_requests.specs.Contents.{true_of, media_named, media_of, ip_named, ip_of, listen_ip_of, port_of, is_simple_named, is_simple_of};
 
 use ms_base::{Code, Media, Tuple};
 use serde_json::{Map, Value};
 
 /// The members of a JSON object.
-pub(crate) type Members = Map<String, Value>;
+pub type Members = Map<String, Value>;
 
 /// The members of a content that is an object.
-pub(crate) fn object_in(content: Option<&Value>) -> Option<&Members>
+pub fn object_in(content: Option<&Value>) -> Option<&Members>
     ensures { option_map (λ m. members_view m.now.entries) result ≡ option_and_then as_object (option_map (λ v. view v.now) content.entry) }
 {
     content?.as_object()
 }
 
 /// The member of a name, which has to be there.
-pub(crate) fn needed<'v>(members: &'v Members, name: &str) -> Result<&'v Value, Code>
+pub fn needed<'v>(members: &'v Members, name: &str) -> Result<&'v Value, Code>
     ensures ok { IfOk result (λ v. get_member name.now (members_view members.now.entries) ≡ Some (view v.now)) }
     ensures err { IfErr result (λ code. (code ≡ Code.Form) × (get_member name.now (members_view members.now.entries) ≡ None)) }
 {
@@ -34,7 +34,8 @@ fn member<'v>(members: &'v Members, name: &str) -> Option<&'v Value>
     members.get(name)
 }
 
-pub(crate) fn read_bool(value: &Value) -> Result<bool, Code>
+/// A truth value.
+pub fn read_bool(value: &Value) -> Result<bool, Code>
     ensures { result ≡ bool_of (view value.now) }
 {
     value.as_bool().ok_or(Code::Form)
@@ -78,7 +79,8 @@ fn ip_named(text: &str) -> Option<[u8; 4]>
     Tuple::read_ip(text.as_bytes())
 }
 
-pub(crate) fn read_ip(value: &Value) -> Result<[u8; 4], Code>
+/// An IPv4 address as [`Tuple::read_ip`] reads its text.
+pub fn read_ip(value: &Value) -> Result<[u8; 4], Code>
     ensures { result ≡ ip_of (view value.now) }
 {
     match value.as_str() {
@@ -97,12 +99,20 @@ pub(crate) fn read_listen_ip(value: &Value) -> Result<[u8; 4], Code>
     }
 }
 
-#[tactic(auto, unfolding(rtp_params::specs::Reading::number_of))]
+/// A UDP port that can be sent to: 1 to 65,535.
 pub(crate) fn read_port(value: &Value) -> Result<u16, Code>
     ensures { result ≡ port_of (view value.now) }
 {
+    read_port_from(value, 1)
+}
+
+/// A UDP port from the least one that may stand there, up to 65,535.
+#[tactic(auto, unfolding(rtp_params::specs::Reading::number_of))]
+pub fn read_port_from(value: &Value, least: u16) -> Result<u16, Code>
+    ensures { result ≡ number_of least 65535 (view value.now) }
+{
     match value.as_u64() {
-        Some(port) if 1 <= port && port <= 65_535 => Ok(port as u16),
+        Some(port) if u64::from(least) <= port && port <= 65_535 => Ok(port as u16),
         _ => Err(Code::Form),
     }
 }

@@ -1,0 +1,4 @@
+pub mod Contents
+pub mod Notices
+pub mod Laws
+pub mod Rows
