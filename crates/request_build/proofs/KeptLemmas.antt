@@ -1,5 +1,5 @@
 -- What is kept stays within the limit on encodings, and so does what is found there.
-use Rattle.std.proofs.Common.{◌≡◌, ◌≤◌, ℕ, List, [], ◌∷◌, length, Bool, true, false, cond, Option, Some, subst, Less, Equal, Greater, Ordering}
+use Rattle.std.proofs.Common.{◌≡◌, ◌≤◌, ℕ, List, [], ◌∷◌, length, Bool, true, false, cond, Option, Some, subst, sym, Less, Equal, Greater, Ordering}
 use Rattle.std.specs.BTreeMap.{insert_entry, is_at}
 use Rattle.std.specs.Map.{lookup, remove_entry}
 use Rattle.std.specs.Ordering.{match_ordering, nat_cmp}
@@ -39,6 +39,12 @@ module _ {A : Type 0} (P : A → Type 0) where
   pub looked_up : (table : List (ℕ × A)) (test : ℕ → Bool) (x : A) → All_few table → lookup test table ≡ Some x → P x
   looked_up [] test x all e = absurd cc
   looked_up (e ∷ es) test x all is = found (test e.0) e.1 (lookup test es) x is all.0 (looked_up es test x all.1)
+
+pub kept_none : (kept : Kept) → kept.producers ≡ [] → kept.consumers ≡ [] → IsKept kept
+kept_none kept producers consumers = record {
+  producers = subst (Each (λ e. length e.1.params.encodings ≤ 8)) (sym producers) tt;
+  consumers = subst (Each (λ e. length e.1.encodings ≤ 8)) (sym consumers) tt;
+}
 
 pub kept_opened : (kept : Kept) (serial : Serial) (keeps : Keep) → IsKept kept → HasFew keeps → IsKept (with_kept serial keeps kept)
 kept_opened kept serial (keep.Router caps) h few = record { producers = h.producers; consumers = h.consumers }

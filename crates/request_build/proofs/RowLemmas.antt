@@ -97,8 +97,8 @@ module _ (k : Known) (call : Object → Call) (kinds : List Kind)
       same_tests _ _ _ _ (built_of k (call o)) (wrong o) (barred o)
       ∙ of_one (not (is_one_of kinds o)) (is_shut k o) o (λ x. built_of k (call x))
 
-shut : (k : Known) (o : Object) → (k.kept.stopped || ((is_some o.closed || false) || false)) ≡ is_shut k o
-shut k o = same_shut k.kept.stopped (is_some o.closed)
+shut : (k : Known) (o : Object) → (k.stopped || ((is_some o.closed || false) || false)) ≡ is_shut k o
+shut k o = same_shut k.stopped (is_some o.closed)
 
 pub plain_is : (k : Known) (name router options : List ℕ) → built k (op.Plain name router options) ≡ row_plain k name router options
 plain_is k name router options =
@@ -131,7 +131,7 @@ can_consume_is k producer caps = by_one k (λ o. CanConsume o caps) (kind.Produc
 
 pub worker_is : (k : Known) (name : List ℕ) (budget : ℕ) → built k (op.Worker name budget) ≡ row_worker k name
 worker_is k name budget =
-    named_first (is_taken k name) _ _ (ap (λ b. refused_where outcome.InvalidState b >>= (λ _. built_of k Worker)) (same_stop k.kept.stopped))
+    named_first (is_taken k name) _ _ (ap (λ b. refused_where outcome.InvalidState b >>= (λ _. built_of k Worker)) (same_stop k.stopped))
 
 pub router_is : (k : Known) (name worker options : List ℕ) → built k (op.Router name worker options) ≡ row_router k name worker options
 router_is k name worker options = named_first (is_taken k name) _ _ (at (named k.objects worker))
@@ -148,7 +148,7 @@ router_is k name worker options = named_first (is_taken k name) _ _ (at (named k
     at None = refl
     at (Some o) =
         same_tests _ _ _ _ (router_asked k name o options) (same_test (is_one_of (kind.Worker ∷ []) o)) refl
-        ∙ of_unready (not (is_one_of (kind.Worker ∷ []) o)) k.kept.stopped (is_some o.closed) (not o.running) o (router_asked k name o options)
+        ∙ of_unready (not (is_one_of (kind.Worker ∷ []) o)) k.stopped (is_some o.closed) (not o.running) o (router_asked k name o options)
         ∙ again (not (is_one_of (kind.Worker ∷ []) o)) (is_shut k o) o
 
 pub consume_is : (k : Known) (name transport producer options : List ℕ) → built k (op.Consume name transport producer options) ≡ row_consume k name transport producer options
@@ -160,7 +160,7 @@ consume_is k name transport producer options = named_first (is_taken k name) _ _
     at (Some a) None = refl
     at (Some a) (Some b) =
         same_tests _ _ _ _ (consume_asked k name a b options) (both_tests (is_one_of transports a) (is_one_of (kind.Producer ∷ []) b))
-        (both_shut k.kept.stopped (is_some a.closed) (is_some b.closed) (not (are_same a.parent (router_of k.objects b))))
+        (both_shut k.stopped (is_some a.closed) (is_some b.closed) (not (are_same a.parent (router_of k.objects b))))
 
 pub close_is : (k : Known) (name : List ℕ) → built k (op.Close name) ≡ row_close k name
 close_is k name = at (named k.objects name)
@@ -192,7 +192,7 @@ pipe_router_is k name producer router =
     at (Some a) None = refl
     at (Some a) (Some b) =
         same_tests _ _ _ _ (built_of k (PipeRouter a b)) (both_tests (is_one_of (kind.Producer ∷ []) a) (is_one_of (kind.Router ∷ []) b))
-        (both_closed k.kept.stopped (is_some a.closed) (is_some b.closed))
+        (both_closed k.stopped (is_some a.closed) (is_some b.closed))
 
 -- ---- what a row gives, the call gives
 

@@ -1,6 +1,6 @@
 -- The one request of each call, with what it draws: the object that it is to make and what is kept of that once it is open.
 -- This project's own.
-use Rattle.std.specs.Prelude.{ℕ, ◌+◌, List, length, map, Bool, true, false, ◌&&◌, ◌||◌, nat_lt, if◌then◌else◌, Option, Some, None, option_and_then, unwrap_or, is_some, Result, Ok}
+use Rattle.std.specs.Prelude.{ℕ, ◌+◌, List, length, Bool, true, false, ◌||◌, nat_lt, if◌then◌else◌, Option, Some, None, option_and_then, unwrap_or, is_some, Result, Ok}
 use Rattle.std.specs.List.{list_any, sum_by}
 use Rattle.serde_json.specs.Data.{Data}
 use Rattle.ms_base.specs.Id.{id_bytes}
@@ -25,7 +25,7 @@ use Rattle.worker_requests.specs.declared.asked.ConsumerIds.{ConsumerIds}
 use Rattle.request_contents.specs.Methods.{ids_of, method_of}
 use Rattle.request_contents.specs.Values.{connect_value, consume_value, direct_value, pipe_value, plain_value, produce_value}
 use Rattle.object_tree.specs.declared.object.Object.{Object}
-use Rattle.object_tree.specs.Objects.{is_producer, numbered, same_id, same_serial}
+use Rattle.object_tree.specs.Objects.{is_producer, numbered}
 use Rattle.ortc_map.specs.Consumable.{consumable}
 use Rattle.ortc_map.specs.ConsumerParams.{consumer_params}
 use Rattle.ortc_map.specs.ProducerMapping.{producer_mapping}
@@ -40,8 +40,8 @@ use Rattle.request_build.specs.declared.built.Draws.{Draws}
 use Rattle.request_build.specs.declared.built.Keep.{Keep}
 use Rattle.request_build.specs.declared.built.Keep.TheVariants as keep
 use Rattle.request_build.specs.declared.built.Offer.{Offer}
-use Rattle.request_build.specs.Columns.{are_same}
-use Rattle.request_build.specs.Known.{Known, above, kept_at, router_of}
+use Rattle.request_build.specs.Known.{Known, above, kept_at}
+use Rattle.request_build.specs.Offers.{offers}
 use Rattle.request_build.specs.Rules.{◌>>=◌, of_mapping, of_options, or_astray, refused_where}
 
 -- A request without its id, the object that it is issued under, the object that it is to make, what is kept of that object
@@ -152,22 +152,9 @@ connect_asked k transport options = do
 
 -- ---- Producers
 
--- an open Producer of a Router, by its id
-abbrev pub is_producer_of : Known → Serial → Id → Object → Bool
-is_producer_of k router id o = same_id o.id id && are_same (Some router) (router_of k.objects o)
-
--- the object of a serial is one
-abbrev pub is_one : Known → Serial → Id → Option Object → Bool
-is_one k router id None = false
-is_one k router id (Some o) = is_producer_of k router id o
-
--- one of the open Producers
-abbrev pub has_open : Known → Serial → Id → Bool
-has_open k router id = list_any (λ serial. is_one k router id (numbered k.objects (record { 0 = serial }))) (map (λ e. e.0) k.kept.producers)
-
 -- an open Producer of the Router has the id, or one that is asked for
 abbrev pub has_id_in : Known → Serial → Id → Bool
-has_id_in k router id = has_open k router id || list_any (λ e. same_serial e.0 router && same_id e.1 id) k.kept.producer_ids
+has_id_in k router id = list_any (offers router id) k.producers || k.is_asked router id
 
 abbrev pub new_producer : Known → List ℕ → Object → Id → Bool → Object
 new_producer k name transport id paused = record (new_object k kind.Producer name id transport) { paused = paused }
@@ -175,9 +162,10 @@ new_producer k name transport id paused = record (new_object k kind.Producer nam
 abbrev pub producer_ids : Object → Object → Object → ProducerIds
 producer_ids router transport producer = record { router = router.id; transport = transport.id; producer = producer.id }
 
--- what is kept of a Producer: its media, its mapping, and what its Router offers of it
-abbrev pub offer_of : ProduceOptions → Caps → Mapping → Offer
-offer_of given caps mapping = record { media = given.media; mapping = mapping; params = consumable given.media given.params caps mapping }
+-- what is kept of a Producer: its Router and its id, its media, its mapping, and what its Router offers of it
+abbrev pub offer_of : Serial → Id → ProduceOptions → Caps → Mapping → Offer
+offer_of router id given caps mapping =
+    record { router = router; id = id; media = given.media; mapping = mapping; params = consumable given.media given.params caps mapping }
 
 abbrev pub producer_of : Known → List ℕ → Object → Object → Id → ProduceOptions → Offer → Built
 producer_of k name router transport id given offer =
@@ -189,9 +177,9 @@ abbrev pub produce_as : Known → List ℕ → Object → ProduceOptions → Res
 produce_as k name transport given = do
   router ← or_astray (above k.objects transport)
   _ ← refused_where (outcome.TypeError code.DuplicateId) (has_id_in k router.serial (unwrap_or given.id (own_id k)))
-  caps ← or_astray (kept_at k.kept.routers router.serial)
+  caps ← or_astray (kept_at k.routers router.serial)
   mapping ← of_mapping (producer_mapping given.params caps k.next.ssrc)
-  Ok (producer_of k name router transport (unwrap_or given.id (own_id k)) given (offer_of given caps mapping))
+  Ok (producer_of k name router transport (unwrap_or given.id (own_id k)) given (offer_of router.serial (unwrap_or given.id (own_id k)) given caps mapping))
 
 abbrev pub produce_asked : Known → List ℕ → Object → List ℕ → Result Built BuildFault
 produce_asked k name transport options = do
@@ -223,15 +211,15 @@ consumer_of k name router transport producer offer params paused simple =
 abbrev pub piped_consume : Known → List ℕ → Object → Object → Bool → Result Built BuildFault
 piped_consume k name transport producer paused = do
   router ← or_astray (above k.objects transport)
-  offer ← or_astray (kept_at k.kept.producers producer.serial)
-  enable_rtx ← or_astray (kept_at k.kept.pipes transport.serial)
+  offer ← or_astray (kept_at k.producers producer.serial)
+  enable_rtx ← or_astray (kept_at k.pipes transport.serial)
   Ok (consumer_of k name router transport producer offer (pipe_params offer.params enable_rtx k.next.ssrc) paused false)
 
 -- over another transport: the one stream of a Producer that has no other
 abbrev pub simple_consume : Known → List ℕ → Object → Object → ConsumeOptions → Result Built BuildFault
 simple_consume k name transport producer given = do
   router ← or_astray (above k.objects transport)
-  offer ← or_astray (kept_at k.kept.producers producer.serial)
+  offer ← or_astray (kept_at k.producers producer.serial)
   _ ← refused_where (outcome.Unsupported code.Simulcast) (nat_lt 1 (length offer.params.encodings))
   params ← of_mapping (consumer_params offer.params given.caps k.next.ssrc)
   Ok (consumer_of k name router transport producer offer params given.paused true)

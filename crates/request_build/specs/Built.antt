@@ -35,12 +35,12 @@ is_own = Ok (Own None)
 abbrev pub can_consume_asked : Known → Object → List ℕ → Result Built BuildFault
 can_consume_asked k producer caps = do
   given ← of_options (caps_options caps)
-  offer ← or_astray (kept_at k.kept.producers producer.serial)
+  offer ← or_astray (kept_at k.producers producer.serial)
   Ok (Own (Some (can_consume offer.params given)))
 
 -- what is wrong with what a call was given, or what it comes to
 abbrev pub built_of : Known → Call → Result Built BuildFault
-built_of k Worker = refused_where (outcome.TypeError code.Slots) (nat_le max_slots k.kept.slots) >>= (λ _. is_own)
+built_of k Worker = refused_where (outcome.TypeError code.Slots) (nat_le max_slots k.slots) >>= (λ _. is_own)
 built_of k (Router name worker options) = router_asked k name worker options
 built_of k (Plain name router options) = plain_asked k name router options
 built_of k (Pipe name router options) = pipe_asked k name router options
@@ -81,8 +81,8 @@ built_part k (part.Consume name transport producer) = do
 built_part k (part.Produce name transport producer consumer paused) = do
   on ← object_named k transport
   source ← or_astray (numbered k.objects producer)
-  offer ← or_astray (kept_at k.kept.producers producer)
-  params ← or_astray (kept_at k.kept.consumers consumer)
+  offer ← or_astray (kept_at k.producers producer)
+  params ← or_astray (kept_at k.consumers consumer)
   produce_as k name on (record { media = offer.media; params = params; paused = paused; id = Some source.id })
 built_part k (part.Pause name) = object_named k name >>= (λ stream. flag_asked k stream true)
 built_part k (part.Resume name) = object_named k name >>= (λ stream. flag_asked k stream false)

@@ -1,6 +1,6 @@
 -- The table of calls, column by column: the names that a call makes, those that it needs and of which kinds, and when an
 -- object is not in a state for it. This project's own.
-use Rattle.std.specs.Prelude.{ℕ, ◌≤◌, ⊤, List, [], ◌∷◌, ◌++◌, length, Bool, false, not, ◌||◌, codes, bytes_eq, Option, Some, None, option_map, is_some}
+use Rattle.std.specs.Prelude.{ℕ, ◌≤◌, ⊤, List, [], ◌∷◌, ◌++◌, length, Bool, false, not, ◌||◌, codes, Option, Some, None, option_map, is_some}
 use Rattle.std.specs.List.{list_any, list_all}
 use Rattle.ms_base.specs.Kinds.{same_kind}
 use Rattle.ms_base.specs.declared.keys.Kind.{Kind}
@@ -42,7 +42,7 @@ HasShortName other = ⊤
 
 -- a name is taken where an object has it, open or closed, or a pending call is to make one of it
 abbrev pub is_taken : Known → List ℕ → Bool
-is_taken k name = is_some (named k.objects name) || list_any (bytes_eq name) k.kept.names
+is_taken k name = is_some (named k.objects name) || k.is_named name
 
 -- ---- the objects that are needed
 
@@ -158,4 +158,4 @@ is_unready k other = false
 -- an object can be closed in any state, also behind the stop
 abbrev pub is_barred : Known → Call → Bool
 is_barred k (Close object) = false
-is_barred k call = k.kept.stopped || (list_any is_closed (needs call) || is_unready k call)
+is_barred k call = k.stopped || (list_any is_closed (needs call) || is_unready k call)

@@ -1,22 +1,77 @@
--- What a call is answered from: the objects, what is kept of the open ones, and what is drawn next. This project's own.
-use Rattle.std.specs.Prelude.{ℕ, ◌<◌, ◌≤◌, ◌^◌, ⊤, List, length, Option, option_and_then}
+-- What a call is answered from: the objects, what is kept of the open ones, what pending calls are to make, and what is
+-- drawn next. This project's own.
+use Rattle.std.specs.Prelude.{◌≡◌, ℕ, ◌<◌, ◌≤◌, ◌^◌, ⊤, List, [], length, Bool, false, nat_lt, Option, option_and_then}
 use Rattle.std.specs.BTreeMap.{insert_entry, is_at}
 use Rattle.std.specs.Map.{lookup, remove_entry}
 use Rattle.std.specs.Ordering.{nat_cmp}
+use Rattle.ms_base.specs.declared.id.Id.{Id}
 use Rattle.ms_base.specs.declared.keys.Serial.{Serial}
 use Rattle.object_tree.specs.declared.object.Object.{Object}
 use Rattle.object_tree.specs.Objects.{numbered}
+use Rattle.rtp_params.specs.declared.params.Caps.{Caps}
+use Rattle.rtp_params.specs.declared.params.Params.{Params}
 use Rattle.rtp_params.specs.Readable.{Each}
 use Rattle.request_build.specs.declared.kept.Kept.{Kept}
 use Rattle.request_build.specs.declared.built.Draws.{Draws}
 use Rattle.request_build.specs.declared.built.Keep.{Keep}
 use Rattle.request_build.specs.declared.built.Keep.TheVariants as keep
+use Rattle.request_build.specs.declared.built.Offer.{Offer}
+use Rattle.request_build.specs.Counts.{times_in, times_named}
 
 pub record Known : Type 0 where
   -- open and closed
   pub objects : List Object
+  -- of open objects, under their serials: what a Router can receive and send, what a Producer offers, what a Consumer
+  -- receives, whether an end of a pipe retransmits
+  pub routers : List (ℕ × Caps)
+  pub producers : List (ℕ × Offer)
+  pub consumers : List (ℕ × Params)
+  pub pipes : List (ℕ × Bool)
+  -- a pending call is to make an object of this name
+  pub is_named : List ℕ → Bool
+  -- a pending request is to make a Producer of this id in this Router
+  pub is_asked : Serial → Id → Bool
+  -- how many slots were made
+  pub slots : ℕ
+  -- the host was stopped
+  pub stopped : Bool
+  pub next : Draws
+
+-- what the tables of the code tell
+abbrev pub known_of : List Object → Kept → Draws → Known
+known_of objects kept next =
+    record {
+      objects = objects;
+      routers = kept.routers;
+      producers = kept.producers;
+      consumers = kept.consumers;
+      pipes = kept.pipes;
+      is_named = λ name. nat_lt 0 (times_named kept.names name);
+      is_asked = λ router id. nat_lt 0 (times_in kept.producer_ids router id);
+      slots = kept.slots;
+      stopped = kept.stopped;
+      next = next;
+    }
+
+-- The tables themselves, of which a call is built.
+pub record Source : Type 0 where
+  pub objects : List Object
   pub kept : Kept
   pub next : Draws
+
+abbrev pub known : Source → Known
+known source = known_of source.objects source.kept source.next
+
+-- nothing is kept, and nothing is pending
+pub record KeepsNothing (kept : Kept) : Type 0 where
+  pub routers : kept.routers ≡ []
+  pub producers : kept.producers ≡ []
+  pub consumers : kept.consumers ≡ []
+  pub pipes : kept.pipes ≡ []
+  pub names : (name : List ℕ) → times_named kept.names name ≡ 0
+  pub producer_ids : (router : Serial) (id : Id) → times_in kept.producer_ids router id ≡ 0
+  pub slots : kept.slots ≡ 0
+  pub running : kept.stopped ≡ false
 
 -- what is kept at a serial
 abbrev pub kept_at : {A : Type 0} → List (ℕ × A) → Serial → Option A
@@ -60,9 +115,12 @@ HasFew (keep.Pipe enable_rtx) = ⊤
 HasFew keep.Nothing = ⊤
 
 -- no Producer and no Consumer has more encodings than the limit
-pub record IsKept (kept : Kept) : Type 0 where
-  pub producers : Each (λ e. length e.1.params.encodings ≤ 8) kept.producers
-  pub consumers : Each (λ e. length e.1.encodings ≤ 8) kept.consumers
+pub record HaveFew (offered : List (ℕ × Offer)) (received : List (ℕ × Params)) : Type 0 where
+  pub producers : Each (λ e. length e.1.params.encodings ≤ 8) offered
+  pub consumers : Each (λ e. length e.1.encodings ≤ 8) received
+
+abbrev pub IsKept : Kept → Type 0
+IsKept kept = HaveFew kept.producers kept.consumers
 
 -- a seed has 60 bits, and serials and SSRCs have 32 when a call has drawn as many as it may
 pub record IsDrawn (next : Draws) : Type 0 where

@@ -1,7 +1,11 @@
+pub mod Counts
+pub mod Offers
 pub mod Known
 pub mod Rules
 pub mod Columns
 pub mod Asks
+pub mod Close
 pub mod Built
+pub mod Laws
 pub mod Steps
 pub mod Rows

@@ -1,5 +1,5 @@
 -- Worked rows: calls to a host with one Worker, one open Router and one that is closed, and what they come to.
-use Rattle.std.specs.Prelude.{◌≡◌, ℕ, List, [], ◌∷◌, true, false, codes, Option, Some, None, Result, Ok, Err, refl}
+use Rattle.std.specs.Prelude.{◌≡◌, ℕ, List, [], ◌∷◌, true, false, codes, bytes_eq, Option, Some, None, Result, Ok, Err, refl}
 use Rattle.std.specs.Char.{encode_utf8}
 use Rattle.std.specs.Fmt.{digits}
 use Rattle.std.specs.Net.Reader.{read_ipv4, read_octet, read_number}
@@ -22,11 +22,13 @@ use Rattle.ortc_map.specs.RouterCaps.{with_codec}
 use Rattle.ortc_map.specs.Supported.{supported_codecs}
 use Rattle.call_options.specs.Options.{plain_in, router_in}
 use Rattle.object_tree.specs.declared.object.Object.{Object}
+use Rattle.object_tree.specs.Objects.{same_serial}
+use Rattle.worker_requests.specs.declared.asked.Asked.TheVariants as asked
 use Rattle.request_build.specs.declared.built.BuildFault.{BuildFault}
 use Rattle.request_build.specs.declared.built.BuildFault.TheVariants.{Refused}
-use Rattle.request_build.specs.declared.kept.Kept.{Kept}
-use Rattle.request_build.specs.Asks.{Built, Own}
+use Rattle.request_build.specs.Asks.{Built, Own, has_id_in}
 use Rattle.request_build.specs.Built.{built}
+use Rattle.request_build.specs.Close.{close_asked}
 use Rattle.request_build.specs.Known.{Known}
 
 abbrev serial : ℕ → Serial
@@ -49,9 +51,6 @@ object n name of_kind parent closed =
       far = None;
     }
 
-abbrev kept : Kept
-kept = record { routers = []; producers = []; consumers = []; pipes = []; names = codes "soon" ∷ []; producer_ids = []; slots = 1; stopped = false }
-
 abbrev host : Known
 host =
     record {
@@ -60,7 +59,14 @@ host =
           ∷ object 2 (codes "r") kind.Router (Some (serial 1)) None
           ∷ object 3 (codes "q") kind.Router (Some (serial 1)) (Some reason.Close)
           ∷ [];
-      kept = kept;
+      routers = [];
+      producers = [];
+      consumers = [];
+      pipes = [];
+      is_named = bytes_eq (codes "soon");
+      is_asked = λ router id. false;
+      slots = 1;
+      stopped = false;
       next = record { seed = 7; serial = 4; ssrc = 100000000 };
     }
 
@@ -89,13 +95,13 @@ closed = refl
 closed_again : built host (op.Close (codes "q")) ≡ Ok (Own None)
 closed_again = refl
 
-stopped : built (record host { kept = record kept { stopped = true } }) (op.Worker (codes "x") 0) ≡ refused outcome.InvalidState
+stopped : built (record host { stopped = true }) (op.Worker (codes "x") 0) ≡ refused outcome.InvalidState
 stopped = refl
 
-no_slot : built (record host { kept = record kept { slots = 64 } }) (op.Worker (codes "x") 0) ≡ refused (outcome.TypeError code.Slots)
+no_slot : built (record host { slots = 64 }) (op.Worker (codes "x") 0) ≡ refused (outcome.TypeError code.Slots)
 no_slot = refl
 
-last_slot : built (record host { kept = record kept { slots = 63 } }) (op.Worker (codes "x") 0) ≡ Ok (Own None)
+last_slot : built (record host { slots = 63 }) (op.Worker (codes "x") 0) ≡ Ok (Own None)
 last_slot = refl
 
 no_form : built host (op.Router (codes "x") (codes "w") (codes "[]")) ≡ refused (outcome.TypeError code.Form)
@@ -111,5 +117,30 @@ unfolding digits chars encode_utf8 is_utf8 serde_json_on_literals plain_in read_
 no_second_port = refl
 
 -- a pipe's four names
-one_of_four : built (record host { kept = record kept { names = codes "k_c" ∷ [] } }) (op.PipeRouter (codes "k") (codes "zz") (codes "r")) ≡ refused outcome.NameTaken
+one_of_four : built (record host { is_named = bytes_eq (codes "k_c") }) (op.PipeRouter (codes "k") (codes "zz") (codes "r")) ≡ refused outcome.NameTaken
 one_of_four = refl
+
+-- an id is taken in a Router by a Producer that is asked for there, and in no other
+asked_for : has_id_in (record host { is_asked = λ router id. same_serial router (serial 2) }) (serial 2) (record { 0 = id_bytes 7 9 }) ≡ true
+asked_for = refl
+
+asked_for_elsewhere : has_id_in (record host { is_asked = λ router id. same_serial router (serial 2) }) (serial 3) (record { 0 = id_bytes 7 9 }) ≡ false
+asked_for_elsewhere = refl
+
+-- ---- closes
+
+abbrev router : Object
+router = object 2 (codes "r") kind.Router (Some (serial 1)) None
+
+close_of_a_worker : close_asked host.objects (object 1 (codes "w") kind.Worker None None) ≡ None
+close_of_a_worker = refl
+
+close_of_a_router : close_asked host.objects router ≡ Some (asked.CloseRouter router.id)
+close_of_a_router = refl
+
+close_of_a_transport : close_asked host.objects (object 4 (codes "t") kind.Plain (Some (serial 2)) None)
+    ≡ Some (asked.CloseTransport (record { router = router.id; transport = record { 0 = id_bytes 7 4 } }))
+close_of_a_transport = refl
+
+nothing_above : close_asked [] router ≡ None
+nothing_above = refl

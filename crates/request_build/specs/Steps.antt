@@ -17,7 +17,7 @@ use Rattle.request_build.specs.Rules.{◌>>=◌, or_refused, refused_where}
 
 -- it is closed, or the host was stopped
 abbrev pub is_shut : Known → Object → Bool
-is_shut k o = k.kept.stopped || is_some o.closed
+is_shut k o = k.stopped || is_some o.closed
 
 -- the object of a name, of one of these kinds and open
 abbrev pub needed : Known → List Kind → List ℕ → Result Object BuildFault
@@ -38,8 +38,8 @@ free k name = refused_where outcome.NameTaken (is_taken k name)
 abbrev pub row_worker : Known → List ℕ → Result Built BuildFault
 row_worker k name = do
   _ ← free k name
-  _ ← refused_where outcome.InvalidState k.kept.stopped
-  _ ← refused_where (outcome.TypeError code.Slots) (nat_le max_slots k.kept.slots)
+  _ ← refused_where outcome.InvalidState k.stopped
+  _ ← refused_where (outcome.TypeError code.Slots) (nat_le max_slots k.slots)
   is_own
 
 abbrev pub row_router : Known → List ℕ → List ℕ → List ℕ → Result Built BuildFault

@@ -1,6 +1,6 @@
 //! What a call is answered from, with the tests that calls share.
 
-ghost use Rattle.std.specs.Prelude.{◌≡◌, ◌≤◌, ◌++◌, length, true, false, Ok, Err, Some, IfOk, IfErr, option_and_then, bytes_eq};
+ghost use Rattle.std.specs.Prelude.{◌≡◌, ◌≤◌, ◌++◌, length, true, false, Ok, Err, Some, IfOk, IfErr, option_and_then};
 ghost use Rattle.std.specs.List.{list_any};
 ghost use Rattle.std.specs.Option.{option_copied};
 ghost use Rattle.ms_base.specs.declared.outcome.Outcome.TheVariants as outcome;
@@ -8,11 +8,12 @@ ghost use Rattle.object_tree.specs.Objects.{named, numbered};
 ghost use Rattle.request_build.specs.Asks.{own_id};
 ghost use Rattle.request_build.specs.Built.{object_named};
 ghost use Rattle.request_build.specs.Columns.{are_same, four_names, is_one_of, is_taken, is_there};
-ghost use Rattle.request_build.specs.Known.{above, kept_at, router_of};
+ghost use Rattle.request_build.specs.Known.{above, kept_at, known, router_of};
 ghost use Rattle.request_build.specs.Steps.{free, is_ending, is_shut, needed};
 ghost use Rattle.request_build.specs.Rules.{or_astray, or_refused, refused_where};
 
 use crate::built::{BuildFault, Draws, Offer};
+use crate::ids::parent;
 use crate::kept::Kept;
 use ms_base::{Id, Kind, Name, NameFault, NoMemory, Outcome, Serial};
 use object_tree::{Object, Tree};
@@ -30,9 +31,14 @@ pub(crate) struct Builder<'k> {
 }
 
 impl<'k> Model for Builder<'k> {
-    ghost use Rattle.request_build.specs.Known.{IsKnown, Known};
+    ghost use Rattle.std.specs.Coded.{codes};
+    ghost use Rattle.request_build.specs.contracts.names.Names as names;
+    ghost use Rattle.request_build.specs.contracts.router_ids.RouterIds as router_ids;
+    ghost use Rattle.request_build.specs.Known.{IsKnown, Source};
 
-    ghost Value = { Known };
+    ghost Value = { Source };
+
+    ghost coded = { Prim.hlevel (codes, names.the_row.coded, router_ids.the_row.coded) };
 
     ghost view = { λ b. record { objects = b.tree.now; kept = b.kept.now; next = b.next } };
 
@@ -71,24 +77,24 @@ pub(crate) fn is_one_of(object: &Object, kinds: &[Kind]) -> bool
 impl<'k> Builder<'k> {
     /// Refuses a name that is taken.
     pub(crate) fn free(&self, name: &Name) -> Result<(), BuildFault>
-        ensures ok { IfOk result (λ _. free self.now name.now ≡ Ok false) }
-        ensures err { IfErr result (λ e. free self.now name.now ≡ Err e) }
+        ensures ok { IfOk result (λ _. free (known self.now) name.now ≡ Ok false) }
+        ensures err { IfErr result (λ e. free (known self.now) name.now ≡ Err e) }
     {
         refuse_where(self.is_taken(name), Outcome::NameTaken)
     }
 
     /// Whether an object has a name, or a pending call is to make one of it.
     pub(crate) fn is_taken(&self, name: &Name) -> bool
-        ensures { result ≡ is_taken self.now name.now }
+        ensures { result ≡ is_taken (known self.now) name.now }
     {
-        self.tree.by_name(name).is_some() || is_pending(self.kept.names.as_slice(), name)
+        self.tree.by_name(name).is_some() || self.kept.names.has(name)
     }
 
     /// Whether one of the names of the objects that pipe a Producer to another Router is taken.
     #[tactic(auto, unfolding(ms_base::specs::Name::is_name_byte))]
     pub(crate) fn is_one_taken(&self, name: &Name) -> Result<bool, NoMemory>
         requires { length name.now ≤ 62 }
-        ensures { IfOk result (λ taken. taken ≡ list_any (is_taken self.now) (four_names name.now)) }
+        ensures { IfOk result (λ taken. taken ≡ list_any (is_taken (known self.now)) (four_names name.now)) }
     {
         let end = self.is_taken_with(name, "_a")?;
         let other_end = self.is_taken_with(name, "_b")?;
@@ -101,7 +107,7 @@ impl<'k> Builder<'k> {
     fn is_taken_with(&self, name: &Name, ending: &str) -> Result<bool, NoMemory>
         requires room { length name.now ≤ 62 }
         requires ending { is_ending ending.now ≡ true }
-        ensures { IfOk result (λ taken. taken ≡ is_taken self.now (name.now ++ ending.now)) }
+        ensures { IfOk result (λ taken. taken ≡ is_taken (known self.now) (name.now ++ ending.now)) }
     {
         let whole = name_with(self.alloc, name, ending)?;
         Ok(self.is_taken(&whole))
@@ -109,8 +115,8 @@ impl<'k> Builder<'k> {
 
     /// The object of a name that a call needs.
     pub(crate) fn named(&self, name: &Name) -> Result<&Object, BuildFault>
-        ensures ok { IfOk result (λ o. or_refused outcome.NoName (named self.now.objects name.now) ≡ Ok o.now) }
-        ensures err { IfErr result (λ e. or_refused outcome.NoName (named self.now.objects name.now) ≡ Err e) }
+        ensures ok { IfOk result (λ o. or_refused outcome.NoName (named (known self.now).objects name.now) ≡ Ok o.now) }
+        ensures err { IfErr result (λ e. or_refused outcome.NoName (named (known self.now).objects name.now) ≡ Err e) }
     {
         match self.tree.by_name(name) {
             Some(object) => Ok(object),
@@ -120,8 +126,8 @@ impl<'k> Builder<'k> {
 
     /// The object of a name that a call needs alone, where it is of one of these kinds and open.
     pub(crate) fn needed(&self, name: &Name, kinds: &[Kind]) -> Result<&Object, BuildFault>
-        ensures ok { IfOk result (λ o. needed self.now kinds.now name.now ≡ Ok o.now) }
-        ensures err { IfErr result (λ e. needed self.now kinds.now name.now ≡ Err e) }
+        ensures ok { IfOk result (λ o. needed (known self.now) kinds.now name.now ≡ Ok o.now) }
+        ensures err { IfErr result (λ e. needed (known self.now) kinds.now name.now ≡ Err e) }
     {
         let object = self.named(name)?;
         refuse_where(!is_one_of(object, kinds), Outcome::WrongKind)?;
@@ -131,62 +137,62 @@ impl<'k> Builder<'k> {
 
     /// Whether an object is closed, or the host was stopped.
     pub(crate) fn is_shut(&self, object: &Object) -> bool
-        ensures { result ≡ is_shut self.now object.now }
+        ensures { result ≡ is_shut (known self.now) object.now }
     {
         self.kept.stopped || object.closed.is_some()
     }
 
     /// The object that another stands on.
     pub(crate) fn above(&self, object: &Object) -> Result<&Object, BuildFault>
-        ensures ok { IfOk result (λ o. or_astray (above self.now.objects object.now) ≡ Ok o.now) }
-        ensures err { IfErr result (λ e. or_astray (above self.now.objects object.now) ≡ Err e) }
+        ensures ok { IfOk result (λ o. or_astray (above (known self.now).objects object.now) ≡ Ok o.now) }
+        ensures err { IfErr result (λ e. or_astray (above (known self.now).objects object.now) ≡ Err e) }
     {
         or_astray(self.parent(object))
     }
 
     fn parent(&self, object: &Object) -> Option<&Object>
-        ensures { option_copied result ≡ above self.now.objects object.now }
+        ensures { option_copied result ≡ above (known self.now).objects object.now }
     {
-        self.tree.get(object.parent?)
+        parent(self.tree, object)
     }
 
     /// The Router of a Producer.
     pub(crate) fn router_of(&self, producer: &Object) -> Option<Serial>
-        ensures { result ≡ router_of self.now.objects producer.now }
+        ensures { result ≡ router_of (known self.now).objects producer.now }
     {
         self.parent(producer)?.parent
     }
 
     /// Whether an object stands on one of this kind.
     pub(crate) fn is_on(&self, object: &Object, kind: Kind) -> bool
-        ensures { result ≡ is_there kind (above self.now.objects object.now) }
+        ensures { result ≡ is_there kind (above (known self.now).objects object.now) }
     {
         match self.parent(object) {
-            Some(parent) => parent.kind == kind,
+            Some(above) => above.kind == kind,
             None => false,
         }
     }
 
     /// The object of a name, which is there.
     pub(crate) fn known(&self, name: &Name) -> Result<&Object, BuildFault>
-        ensures ok { IfOk result (λ o. object_named self.now name.now ≡ Ok o.now) }
-        ensures err { IfErr result (λ e. object_named self.now name.now ≡ Err e) }
+        ensures ok { IfOk result (λ o. object_named (known self.now) name.now ≡ Ok o.now) }
+        ensures err { IfErr result (λ e. object_named (known self.now) name.now ≡ Err e) }
     {
         or_astray(self.tree.by_name(name))
     }
 
     /// The object of a serial, which is there.
     pub(crate) fn at(&self, serial: Serial) -> Result<&Object, BuildFault>
-        ensures ok { IfOk result (λ o. or_astray (numbered self.now.objects serial) ≡ Ok o.now) }
-        ensures err { IfErr result (λ e. or_astray (numbered self.now.objects serial) ≡ Err e) }
+        ensures ok { IfOk result (λ o. or_astray (numbered (known self.now).objects serial) ≡ Ok o.now) }
+        ensures err { IfErr result (λ e. or_astray (numbered (known self.now).objects serial) ≡ Err e) }
     {
         or_astray(self.tree.get(serial))
     }
 
     /// The Producer that a Consumer consumes.
     pub(crate) fn source(&self, consumer: &Object) -> Result<&Object, BuildFault>
-        ensures ok { IfOk result (λ o. or_astray (option_and_then (numbered self.now.objects) consumer.now.producer) ≡ Ok o.now) }
-        ensures err { IfErr result (λ e. or_astray (option_and_then (numbered self.now.objects) consumer.now.producer) ≡ Err e) }
+        ensures ok { IfOk result (λ o. or_astray (option_and_then (numbered (known self.now).objects) consumer.now.producer) ≡ Ok o.now) }
+        ensures err { IfErr result (λ e. or_astray (option_and_then (numbered (known self.now).objects) consumer.now.producer) ≡ Err e) }
     {
         match consumer.producer {
             Some(serial) => self.at(serial),
@@ -196,17 +202,17 @@ impl<'k> Builder<'k> {
 
     /// What a Router can receive and send.
     pub(crate) fn caps(&self, router: &Object) -> Result<&Caps, BuildFault>
-        ensures ok { IfOk result (λ caps. or_astray (kept_at self.now.kept.routers router.now.serial) ≡ Ok caps.now) }
-        ensures err { IfErr result (λ e. or_astray (kept_at self.now.kept.routers router.now.serial) ≡ Err e) }
+        ensures ok { IfOk result (λ caps. or_astray (kept_at (known self.now).routers router.now.serial) ≡ Ok caps.now) }
+        ensures err { IfErr result (λ e. or_astray (kept_at (known self.now).routers router.now.serial) ≡ Err e) }
     {
         or_astray(self.kept.routers.get(router.serial))
     }
 
     /// What a Producer offers.
     pub(crate) fn offer(&self, producer: Serial) -> Result<&Offer, BuildFault>
-        ensures ok { IfOk result (λ offer. or_astray (kept_at self.now.kept.producers producer) ≡ Ok offer.now) }
+        ensures ok { IfOk result (λ offer. or_astray (kept_at (known self.now).producers producer) ≡ Ok offer.now) }
         ensures few { IfOk result (λ offer. length offer.now.params.encodings ≤ 8) }
-        ensures err { IfErr result (λ e. or_astray (kept_at self.now.kept.producers producer) ≡ Err e) }
+        ensures err { IfErr result (λ e. or_astray (kept_at (known self.now).producers producer) ≡ Err e) }
     {
         match self.kept.producers.get(producer) {
             Some(offer) => Ok(offer),
@@ -216,9 +222,9 @@ impl<'k> Builder<'k> {
 
     /// What a Consumer receives.
     pub(crate) fn received(&self, consumer: Serial) -> Result<&Params, BuildFault>
-        ensures ok { IfOk result (λ params. or_astray (kept_at self.now.kept.consumers consumer) ≡ Ok params.now) }
+        ensures ok { IfOk result (λ params. or_astray (kept_at (known self.now).consumers consumer) ≡ Ok params.now) }
         ensures few { IfOk result (λ params. length params.now.encodings ≤ 8) }
-        ensures err { IfErr result (λ e. or_astray (kept_at self.now.kept.consumers consumer) ≡ Err e) }
+        ensures err { IfErr result (λ e. or_astray (kept_at (known self.now).consumers consumer) ≡ Err e) }
     {
         match self.kept.consumers.get(consumer) {
             Some(params) => Ok(params),
@@ -228,14 +234,14 @@ impl<'k> Builder<'k> {
 
     /// Whether an end of a pipe retransmits.
     pub(crate) fn retransmits(&self, transport: &Object) -> Result<bool, BuildFault>
-        ensures { result ≡ or_astray (kept_at self.now.kept.pipes transport.now.serial) }
+        ensures { result ≡ or_astray (kept_at (known self.now).pipes transport.now.serial) }
     {
         or_astray(self.kept.pipes.get(transport.serial).copied())
     }
 
     /// The id of the next serial.
     pub(crate) fn own_id(&self) -> Id
-        ensures { result ≡ own_id self.now }
+        ensures { result ≡ own_id (known self.now) }
     {
         Id::of(self.next.seed, self.next.serial)
     }
@@ -258,13 +264,6 @@ fn is_serial(serial: Serial, found: Option<Serial>) -> bool
         Some(found) => serial == found,
         None => false,
     }
-}
-
-// Whether a name is one of these.
-fn is_pending(names: &[Name], name: &Name) -> bool
-    ensures { result ≡ list_any (bytes_eq name.now) names.now }
-{
-    names.iter().any(|other| name == other)
 }
 
 // A name with an ending behind it.

@@ -2,7 +2,7 @@ ghost use Rattle.std.specs.Prelude.{◌≡◌};
 
 use call_options::OptionFault;
 use channel_msgs::Ids;
-use ms_base::{Media, NoMemory, Outcome, Serial, Text};
+use ms_base::{Id, Media, NoMemory, Outcome, Serial, Text};
 use object_tree::Object;
 use ortc_map::MapFault;
 use rtp_params::{Caps, Mapping, Params};
@@ -24,6 +24,10 @@ pub struct Draws {
 /// What a Producer offers to Consumers.
 #[derive(Debug, Drop)]
 pub struct Offer {
+    /// Its Router.
+    pub router: Serial,
+    /// Its id, of which its Router has no other open Producer.
+    pub id: Id,
     pub media: Media,
     /// How its payload types and SSRCs are mapped to those of its Router.
     pub mapping: Mapping,

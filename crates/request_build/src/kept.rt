@@ -1,14 +1,17 @@
-ghost use Rattle.std.specs.Prelude.{◌≡◌, ℕ, Bool, [], false, OnOk, OnErr, option_copied};
+ghost use Rattle.std.specs.Prelude.{◌≡◌, [], OnOk, OnErr, option_copied};
 ghost use Rattle.std.specs.BTreeMap.{insert_entry};
 ghost use Rattle.std.specs.Ordering.{nat_cmp};
 ghost use Rattle.ms_base.specs.declared.keys.Serial.{Serial};
 ghost use Rattle.request_build.specs.declared.built.Keep.{Keep};
 ghost use Rattle.request_build.specs.declared.kept.Kept.{Kept};
-ghost use Rattle.request_build.specs.Known.{HasFew, IsKept, gone, kept_at, with_kept, without};
+ghost use Rattle.request_build.specs.Known.{HasFew, IsKept, KeepsNothing, gone, kept_at, with_kept, without};
 
-use crate::built::{Keep, Offer};
-use ms_base::{Id, Name, NoMemory, Serial};
-use rtp_params::{Caps, Items, Params};
+use crate::built::Keep;
+use crate::names::Names;
+use crate::producers::Producers;
+use crate::router_ids::RouterIds;
+use ms_base::{NoMemory, Serial};
+use rtp_params::{Caps, Params};
 use std::alloc::Global;
 use std::collections::BTreeMap;
 use std::marker::Model;
@@ -48,13 +51,6 @@ impl<T: Drop> Table<T> {
         self.entries.get(&serial.0)
     }
 
-    /// The serials at which something is kept, with what is kept there.
-    pub(crate) fn entries(&self) -> &BTreeMap<u32, T>
-        ensures { result.now.entries ≡ self.now }
-    {
-        &self.entries
-    }
-
     /// Keeps a value at a serial, in place of what was kept there.
     pub fn insert(&mut self, serial: Serial, value: T) -> Result<(), NoMemory>
         ensures ok { OnOk result (self.new ≡ insert_entry nat_cmp self.old serial.0 value) }
@@ -78,15 +74,15 @@ pub struct Kept {
     /// Of each open Router what it can receive and send.
     pub routers: Table<Caps>,
     /// Of each open Producer what it offers.
-    pub producers: Table<Offer>,
+    pub producers: Producers,
     /// Of each open Consumer what it receives.
     pub consumers: Table<Params>,
     /// Of each open end of a pipe whether it retransmits.
     pub pipes: Table<bool>,
     /// The names that pending calls are to make.
-    pub names: Items<Name>,
-    /// The ids of the Producers that are asked for, each with its Router.
-    pub producer_ids: Items<(Serial, Id)>,
+    pub names: Names,
+    /// The ids of the Producers that are asked for, each in its Router.
+    pub producer_ids: RouterIds,
     /// How many slots were made.
     pub slots: u32,
     /// Whether the host was stopped.
@@ -96,15 +92,15 @@ pub struct Kept {
 impl Kept {
     /// What a host keeps that has no objects.
     pub fn new(alloc: Global) -> Kept
-        ensures { result ≡ record { routers = []; producers = []; consumers = []; pipes = []; names = []; producer_ids = []; slots = 0; stopped = false } }
+        ensures { KeepsNothing result }
     {
         Kept {
             routers: Table::new(alloc),
-            producers: Table::new(alloc),
+            producers: Producers::new(alloc),
             consumers: Table::new(alloc),
             pipes: Table::new(alloc),
-            names: Items::from_vec(Vec::new(alloc)),
-            producer_ids: Items::from_vec(Vec::new(alloc)),
+            names: Names::new(alloc),
+            producer_ids: RouterIds::new(alloc),
             slots: 0,
             stopped: false,
         }
@@ -137,7 +133,7 @@ impl Kept {
 
 /// What is kept stays within the limit on encodings. The function does nothing; its contract is the law.
 pub fn what_is_kept_has_few_encodings()
-    ensures none { (slots : ℕ) (stopped : Bool) → IsKept (record { routers = []; producers = []; consumers = []; pipes = []; names = []; producer_ids = []; slots = slots; stopped = stopped }) }
+    ensures none { (kept : Kept) → kept.producers ≡ [] → kept.consumers ≡ [] → IsKept kept }
     ensures opened { (kept : Kept) (serial : Serial) (keeps : Keep) → IsKept kept → HasFew keeps → IsKept (with_kept serial keeps kept) }
     ensures closed { (kept : Kept) (serial : Serial) → IsKept kept → IsKept (without serial kept) }
 {}

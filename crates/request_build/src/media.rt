@@ -1,14 +1,14 @@
 //! The requests for Producers and Consumers.
 
-ghost use Rattle.std.specs.Prelude.{◌≡◌, ◌≤◌, ◌&&◌, length, IfOk};
-ghost use Rattle.std.specs.List.{list_any};
-ghost use Rattle.object_tree.specs.Objects.{numbered, same_id, same_serial};
-ghost use Rattle.request_build.specs.Asks.{consume_asked, consumer_flag, consumer_flagged, consumer_ids, consumer_of, flag_asked, has_id_in, has_open, is_one, new_consumer, new_producer, offer_of, piped_consume, produce_as, produce_asked, producer_flag, producer_flagged, producer_ids, producer_of, simple_consume, ssrcs_drawn, ssrcs_for};
+ghost use Rattle.std.specs.Prelude.{◌≡◌, ◌≤◌, length, IfOk};
+ghost use Rattle.request_build.specs.Asks.{consume_asked, consumer_flag, consumer_of, flag_asked, has_id_in, new_consumer, new_producer, offer_of, piped_consume, produce_as, produce_asked, producer_flag, producer_of, simple_consume, ssrcs_drawn, ssrcs_for};
 ghost use Rattle.request_build.specs.Built.{built_view};
+ghost use Rattle.request_build.specs.Known.{known};
 ghost use Rattle.request_build.specs.Rules.{Gives};
 
-use crate::builder::{Builder, are_same, refuse_where};
+use crate::builder::{Builder, refuse_where};
 use crate::built::{BuildFault, Built, Keep, Offer};
+use crate::ids::{consumer_ids, producer_ids};
 use call_options::{
     ConsumeOptions, ProduceOptions, consume_options, piped_consume_options, produce_options,
     what_is_read_fits,
@@ -22,34 +22,6 @@ use pipe_params::pipe_consumer_params;
 use request_contents::{write_consume, write_produce};
 use rtp_params::{Caps, Encoding, Mapping, Params};
 use worker_requests::{Asked, ConsumerIds, ProducerIds};
-
-// The ids of a Producer.
-fn producer_ids(router: &Object, transport: &Object, producer: &Object) -> ProducerIds
-    ensures { result ≡ producer_ids router.now transport.now producer.now }
-{
-    ProducerIds {
-        router: router.id,
-        transport: transport.id,
-        producer: producer.id,
-    }
-}
-
-// The ids of a Consumer.
-fn consumer_ids(
-    router: &Object,
-    transport: &Object,
-    producer: &Object,
-    consumer: &Object,
-) -> ConsumerIds
-    ensures { result ≡ consumer_ids router.now transport.now producer.now consumer.now }
-{
-    ConsumerIds {
-        router: router.id,
-        transport: transport.id,
-        producer: producer.id,
-        consumer: consumer.id,
-    }
-}
 
 // How many SSRCs an encoding has: its own, and that of its retransmissions.
 fn ssrcs_for(encoding: &Encoding) -> u32
@@ -79,7 +51,7 @@ impl<'k> Builder<'k> {
         transport: &Object,
         options: &Text,
     ) -> Result<Built, BuildFault>
-        ensures { Gives built_view result (produce_asked self.now name.now transport.now options.now) }
+        ensures { Gives built_view result (produce_asked (known self.now) name.now transport.now options.now) }
     {
         what_is_read_fits();
         let given = produce_options(self.alloc, options)?;
@@ -94,7 +66,7 @@ impl<'k> Builder<'k> {
         given: &ProduceOptions,
     ) -> Result<Built, BuildFault>
         requires { length given.now.params.encodings ≤ 8 }
-        ensures { Gives built_view result (produce_as self.now name.now transport.now given.now) }
+        ensures { Gives built_view result (produce_as (known self.now) name.now transport.now given.now) }
     {
         let router = self.above(transport)?;
         let id = given.id.unwrap_or(self.own_id());
@@ -104,21 +76,25 @@ impl<'k> Builder<'k> {
         refuse_where(self.has_id_in(router.serial, id), taken)?;
         let caps = self.caps(router)?;
         let mapping = producer_mapping(self.alloc, &given.params, caps, self.next.ssrc)?;
-        let offer = self.offer_of(given, caps, mapping)?;
+        let offer = self.offer_of(router.serial, id, given, caps, mapping)?;
         Ok(self.producer_of(name, router, transport, id, given, offer)?)
     }
 
     // What is kept of a Producer.
     fn offer_of(
         &self,
+        router: Serial,
+        id: Id,
         given: &ProduceOptions,
         caps: &Caps,
         mapping: Mapping,
     ) -> Result<Offer, NoMemory>
-        ensures { IfOk result (λ offer. offer ≡ offer_of given.now caps.now mapping) }
+        ensures { IfOk result (λ offer. offer ≡ offer_of router id given.now caps.now mapping) }
     {
         let params = consumable(self.alloc, given.media, &given.params, caps, &mapping)?;
         Ok(Offer {
+            router,
+            id,
             media: given.media,
             mapping,
             params,
@@ -135,7 +111,7 @@ impl<'k> Builder<'k> {
         offer: Offer,
     ) -> Result<Built, NoMemory>
         requires { length given.now.params.encodings ≤ 8 }
-        ensures { IfOk result (λ b. built_view b ≡ producer_of self.now name.now router.now transport.now id given.now offer) }
+        ensures { IfOk result (λ b. built_view b ≡ producer_of (known self.now) name.now router.now transport.now id given.now offer) }
     {
         let producer = self.new_producer(name, transport, id, given.paused)?;
         let value = write_produce(
@@ -158,7 +134,7 @@ impl<'k> Builder<'k> {
         id: Id,
         paused: bool,
     ) -> Result<Object, NoMemory>
-        ensures { IfOk result (λ o. o ≡ new_producer self.now name.now transport.now id paused) }
+        ensures { IfOk result (λ o. o ≡ new_producer (known self.now) name.now transport.now id paused) }
     {
         let object = self.new_object(Kind::Producer, name, id, transport)?;
         Ok(Object { paused, ..object })
@@ -166,9 +142,9 @@ impl<'k> Builder<'k> {
 
     // Whether an open Producer of a Router has an id, or one that is asked for.
     fn has_id_in(&self, router: Serial, id: Id) -> bool
-        ensures { result ≡ has_id_in self.now router id }
+        ensures { result ≡ has_id_in (known self.now) router id }
     {
-        self.has_open(router, id) || is_asked_for(self.kept.producer_ids.as_slice(), router, id)
+        self.kept.producers.has_id(router, id) || self.kept.producer_ids.has(router, id)
     }
 
     /// A Consumer of a Producer on a transport.
@@ -179,7 +155,7 @@ impl<'k> Builder<'k> {
         producer: &Object,
         options: &Text,
     ) -> Result<Built, BuildFault>
-        ensures { Gives built_view result (consume_asked self.now name.now transport.now producer.now options.now) }
+        ensures { Gives built_view result (consume_asked (known self.now) name.now transport.now producer.now options.now) }
     {
         if transport.kind == Kind::Pipe {
             let paused = piped_consume_options(self.alloc, options)?;
@@ -198,7 +174,7 @@ impl<'k> Builder<'k> {
         producer: &Object,
         paused: bool,
     ) -> Result<Built, BuildFault>
-        ensures { Gives built_view result (piped_consume self.now name.now transport.now producer.now paused) }
+        ensures { Gives built_view result (piped_consume (known self.now) name.now transport.now producer.now paused) }
     {
         let router = self.above(transport)?;
         let offer = self.offer(producer.serial)?;
@@ -221,7 +197,7 @@ impl<'k> Builder<'k> {
         producer: &Object,
         given: &ConsumeOptions,
     ) -> Result<Built, BuildFault>
-        ensures { Gives built_view result (simple_consume self.now name.now transport.now producer.now given.now) }
+        ensures { Gives built_view result (simple_consume (known self.now) name.now transport.now producer.now given.now) }
     {
         let router = self.above(transport)?;
         let offer = self.offer(producer.serial)?;
@@ -249,7 +225,7 @@ impl<'k> Builder<'k> {
         simple: bool,
     ) -> Result<Built, NoMemory>
         requires { length params.encodings ≤ 8 }
-        ensures { IfOk result (λ b. built_view b ≡ consumer_of self.now name.now ends.entry.router.now ends.entry.transport.now ends.entry.producer.now offer.now params paused simple) }
+        ensures { IfOk result (λ b. built_view b ≡ consumer_of (known self.now) name.now ends.entry.router.now ends.entry.transport.now ends.entry.producer.now offer.now params paused simple) }
     {
         let consumer = self.new_consumer(name, ends.transport, ends.producer, paused)?;
         let value = write_consume(
@@ -278,7 +254,7 @@ impl<'k> Builder<'k> {
         producer: &Object,
         paused: bool,
     ) -> Result<Object, NoMemory>
-        ensures { IfOk result (λ o. o ≡ new_consumer self.now name.now transport.now producer.now paused) }
+        ensures { IfOk result (λ o. o ≡ new_consumer (known self.now) name.now transport.now producer.now paused) }
     {
         let object = self.new_object(Kind::Consumer, name, self.own_id(), transport)?;
         Ok(Object {
@@ -290,7 +266,7 @@ impl<'k> Builder<'k> {
 
     /// A pause or the end of one, of a Producer or a Consumer.
     pub(crate) fn flag_asked(&self, stream: &Object, paused: bool) -> Result<Built, BuildFault>
-        ensures { Gives built_view result (flag_asked self.now stream.now paused) }
+        ensures { Gives built_view result (flag_asked (known self.now) stream.now paused) }
     {
         let transport = self.above(stream)?;
         let router = self.above(transport)?;
@@ -301,27 +277,6 @@ impl<'k> Builder<'k> {
             let producer = self.source(stream)?;
             let ids = consumer_ids(router, transport, producer, stream);
             Ok(self.changes(consumer_flag(paused, ids), None, stream)?)
-        }
-    }
-
-    // Whether an open Producer of a Router has an id.
-    fn has_open(&self, router: Serial, id: Id) -> bool
-        ensures { result ≡ has_open self.now router id }
-    {
-        self.kept
-            .producers
-            .entries()
-            .keys()
-            .any(|serial| self.is_one(router, id, Serial(*serial)))
-    }
-
-    // Whether the object of a serial is a Producer of a Router with an id.
-    fn is_one(&self, router: Serial, id: Id, serial: Serial) -> bool
-        ensures { result ≡ is_one self.now router id (numbered self.now.objects serial) }
-    {
-        match self.tree.get(serial) {
-            Some(object) => object.id == id && are_same(Some(router), self.router_of(object)),
-            None => false,
         }
     }
 }
@@ -352,11 +307,4 @@ fn consumer_flag(paused: bool, ids: ConsumerIds) -> Asked
     } else {
         Asked::ResumeConsumer(ids)
     }
-}
-
-// Whether a Producer with an id is asked for on a Router.
-fn is_asked_for(ids: &[(Serial, Id)], router: Serial, id: Id) -> bool
-    ensures { result ≡ list_any (λ e. same_serial e.0 router && same_id e.1 id) ids.now }
-{
-    ids.iter().any(|(on, other)| *on == router && *other == id)
 }

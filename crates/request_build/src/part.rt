@@ -1,6 +1,5 @@
-ghost use Rattle.std.specs.Prelude.{◌≡◌};
 ghost use Rattle.request_build.specs.Built.{built_part, built_view};
-ghost use Rattle.request_build.specs.Known.{IsKnown};
+ghost use Rattle.request_build.specs.Known.{IsKnown, known, known_of};
 ghost use Rattle.request_build.specs.Rules.{Gives};
 
 use crate::builder::Builder;
@@ -25,7 +24,7 @@ pub fn build_part(
     next: Draws,
 ) -> Result<Built, BuildFault>
     requires { IsKnown kept.now next }
-    ensures { Gives built_view result (built_part (record { objects = tree.now; kept = kept.now; next = next }) part.now) }
+    ensures { Gives built_view result (built_part (known_of tree.now kept.now next) part.now) }
 {
     let builder = Builder {
         alloc,
@@ -57,7 +56,7 @@ impl<'k> Builder<'k> {
     ghost use Rattle.ms_base.specs.declared.part.Part.TheVariants as part;
 
     fn pipe_part(&self, name: &Name, router: &Name) -> Result<Built, BuildFault>
-        ensures { Gives built_view result (built_part self.now (part.Pipe name.now router.now)) }
+        ensures { Gives built_view result (built_part (known self.now) (part.Pipe name.now router.now)) }
     {
         let router = self.known(router)?;
         let given = PipeOptions {
@@ -73,7 +72,7 @@ impl<'k> Builder<'k> {
         transport: &Name,
         producer: &Name,
     ) -> Result<Built, BuildFault>
-        ensures { Gives built_view result (built_part self.now (part.Consume name.now transport.now producer.now)) }
+        ensures { Gives built_view result (built_part (known self.now) (part.Consume name.now transport.now producer.now)) }
     {
         let transport = self.known(transport)?;
         let producer = self.known(producer)?;
@@ -88,7 +87,7 @@ impl<'k> Builder<'k> {
         consumer: Serial,
         paused: bool,
     ) -> Result<Built, BuildFault>
-        ensures { Gives built_view result (built_part self.now (part.Produce name.now transport.now producer consumer paused)) }
+        ensures { Gives built_view result (built_part (known self.now) (part.Produce name.now transport.now producer consumer paused)) }
     {
         let transport = self.known(transport)?;
         let source = self.at(producer)?;

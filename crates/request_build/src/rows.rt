@@ -1,9 +1,9 @@
 //! The rows of the table of calls: the tests of each call in their order, and then its request.
 
-ghost use Rattle.std.specs.Prelude.{◌≡◌, ◌≤◌, length};
+ghost use Rattle.std.specs.Prelude.{◌≤◌, length};
 ghost use Rattle.request_build.specs.Built.{built, built_view, is_own};
 ghost use Rattle.request_build.specs.Columns.{HasShortName};
-ghost use Rattle.request_build.specs.Known.{IsKnown};
+ghost use Rattle.request_build.specs.Known.{IsKnown, known, known_of};
 ghost use Rattle.request_build.specs.Rules.{Gives};
 ghost use Rattle.request_build.specs.Steps.{row_can_consume, row_close, row_connect, row_consume, row_direct, row_flag, row_pipe, row_pipe_router, row_plain, row_produce, row_router, row_send, row_worker};
 
@@ -12,7 +12,7 @@ use crate::built::{BuildFault, Built, Draws};
 use crate::kept::Kept;
 use call_options::caps_options;
 use ms_base::{Bytes, Code, Kind, Name, Op, Outcome, Text};
-use object_tree::{Object, Tree};
+use object_tree::Tree;
 use ortc_map::can_consume;
 use std::alloc::Global;
 
@@ -45,7 +45,7 @@ pub fn build(
 ) -> Result<Built, BuildFault>
     requires known { IsKnown kept.now next }
     requires short { HasShortName op.now }
-    ensures { Gives built_view result (built (record { objects = tree.now; kept = kept.now; next = next }) op.now) }
+    ensures { Gives built_view result (built (known_of tree.now kept.now next) op.now) }
 {
     let builder = Builder {
         alloc,
@@ -105,7 +105,7 @@ fn own() -> Result<Built, BuildFault>
 
 impl<'k> Builder<'k> {
     fn worker(&self, name: &Name) -> Result<Built, BuildFault>
-        ensures { Gives built_view result (row_worker self.now name.now) }
+        ensures { Gives built_view result (row_worker (known self.now) name.now) }
     {
         self.free(name)?;
         refuse_where(self.kept.stopped, Outcome::InvalidState)?;
@@ -115,7 +115,7 @@ impl<'k> Builder<'k> {
     }
 
     fn router(&self, name: &Name, worker: &Name, options: &Text) -> Result<Built, BuildFault>
-        ensures { Gives built_view result (row_router self.now name.now worker.now options.now) }
+        ensures { Gives built_view result (row_router (known self.now) name.now worker.now options.now) }
     {
         self.free(name)?;
         let worker = self.needed(worker, &[Kind::Worker])?;
@@ -124,7 +124,7 @@ impl<'k> Builder<'k> {
     }
 
     fn plain(&self, name: &Name, router: &Name, options: &Text) -> Result<Built, BuildFault>
-        ensures { Gives built_view result (row_plain self.now name.now router.now options.now) }
+        ensures { Gives built_view result (row_plain (known self.now) name.now router.now options.now) }
     {
         self.free(name)?;
         let router = self.needed(router, &[Kind::Router])?;
@@ -132,7 +132,7 @@ impl<'k> Builder<'k> {
     }
 
     fn pipe(&self, name: &Name, router: &Name, options: &Text) -> Result<Built, BuildFault>
-        ensures { Gives built_view result (row_pipe self.now name.now router.now options.now) }
+        ensures { Gives built_view result (row_pipe (known self.now) name.now router.now options.now) }
     {
         self.free(name)?;
         let router = self.needed(router, &[Kind::Router])?;
@@ -140,7 +140,7 @@ impl<'k> Builder<'k> {
     }
 
     fn direct(&self, name: &Name, router: &Name) -> Result<Built, BuildFault>
-        ensures { Gives built_view result (row_direct self.now name.now router.now) }
+        ensures { Gives built_view result (row_direct (known self.now) name.now router.now) }
     {
         self.free(name)?;
         let router = self.needed(router, &[Kind::Router])?;
@@ -148,14 +148,14 @@ impl<'k> Builder<'k> {
     }
 
     fn connect(&self, transport: &Name, options: &Text) -> Result<Built, BuildFault>
-        ensures { Gives built_view result (row_connect self.now transport.now options.now) }
+        ensures { Gives built_view result (row_connect (known self.now) transport.now options.now) }
     {
         let transport = self.needed(transport, &[Kind::Plain, Kind::Pipe])?;
         self.connect_asked(transport, options)
     }
 
     fn produce(&self, name: &Name, transport: &Name, options: &Text) -> Result<Built, BuildFault>
-        ensures { Gives built_view result (row_produce self.now name.now transport.now options.now) }
+        ensures { Gives built_view result (row_produce (known self.now) name.now transport.now options.now) }
     {
         self.free(name)?;
         let transport = self.needed(transport, &TRANSPORTS)?;
@@ -169,7 +169,7 @@ impl<'k> Builder<'k> {
         producer: &Name,
         options: &Text,
     ) -> Result<Built, BuildFault>
-        ensures { Gives built_view result (row_consume self.now name.now transport.now producer.now options.now) }
+        ensures { Gives built_view result (row_consume (known self.now) name.now transport.now producer.now options.now) }
     {
         self.free(name)?;
         let transport = self.named(transport)?;
@@ -184,21 +184,21 @@ impl<'k> Builder<'k> {
     }
 
     fn flag(&self, name: &Name, paused: bool) -> Result<Built, BuildFault>
-        ensures { Gives built_view result (row_flag self.now name.now paused) }
+        ensures { Gives built_view result (row_flag (known self.now) name.now paused) }
     {
         let stream = self.needed(name, &STREAMS)?;
         self.flag_asked(stream, paused)
     }
 
     fn close(&self, name: &Name) -> Result<Built, BuildFault>
-        ensures { Gives built_view result (row_close self.now name.now) }
+        ensures { Gives built_view result (row_close (known self.now) name.now) }
     {
         self.named(name)?;
         own()
     }
 
     fn can_consume(&self, producer: &Name, caps: &Text) -> Result<Built, BuildFault>
-        ensures { Gives built_view result (row_can_consume self.now producer.now caps.now) }
+        ensures { Gives built_view result (row_can_consume (known self.now) producer.now caps.now) }
     {
         let producer = self.needed(producer, &[Kind::Producer])?;
         let given = caps_options(self.alloc, caps)?;
@@ -208,7 +208,7 @@ impl<'k> Builder<'k> {
     }
 
     fn send(&self, producer: &Name, packet: &Bytes) -> Result<Built, BuildFault>
-        ensures { Gives built_view result (row_send self.now producer.now packet.now) }
+        ensures { Gives built_view result (row_send (known self.now) producer.now packet.now) }
     {
         let producer = self.named(producer)?;
         let is_wrong = !is_one_of(producer, &[Kind::Producer])
@@ -222,7 +222,7 @@ impl<'k> Builder<'k> {
 
     fn pipe_router(&self, name: &Name, producer: &Name, router: &Name) -> Result<Built, BuildFault>
         requires { length name.now ≤ 62 }
-        ensures { Gives built_view result (row_pipe_router self.now name.now producer.now router.now) }
+        ensures { Gives built_view result (row_pipe_router (known self.now) name.now producer.now router.now) }
     {
         refuse_where(self.is_one_taken(name)?, Outcome::NameTaken)?;
         let producer = self.named(producer)?;

@@ -2,11 +2,13 @@ mod host;
 mod ops;
 mod told;
 
-use host::{kept, name, text};
-use ms_base::{Op, Part, Serial, Tuple};
+use crate::{Names, RouterIds};
+use channel_msgs::Ids;
+use host::{id_of, kept, name, text, tree};
+use ms_base::{Id, Op, Part, Serial, Tuple};
 use ops::{connect, consume, direct, pipe, pipe_router, plain, produce, router, send, worker};
 use std::test::Fail;
-use told::{check, check_behind, check_part};
+use told::{check, check_behind, check_close, check_part};
 
 const OPUS_CAPS: &str = r#"{"codecs":[{"mimeType":"audio/opus","clockRate":48000,"channels":2}]}"#;
 
@@ -20,6 +22,48 @@ fn nothing_is_kept_of_what_has_closed(rt: HostRuntime) -> Result<(), Fail> {
         kept.pipes.get(Serial(14)).copied(),
     );
     assert_eq!(rt; found, (true, false, Some(true)));
+    Ok(())
+}
+
+#[test]
+fn what_is_pending_is_counted(rt: HostRuntime) -> Result<(), Fail> {
+    let a = rt.alloc();
+    let (twice, once) = (name(a, "twice")?, name(a, "once")?);
+    let mut names = Names::new(a);
+    for added in [&twice, &once, &twice] {
+        names.add(a, added)?;
+    }
+    names.remove(&twice);
+    names.remove(&once);
+    names.remove(&once);
+    assert_eq!(rt; (names.times(&twice), names.has(&once)), (1, false));
+    let (one, other) = (Id::of(7, 1), Id::of(7, 2));
+    let mut ids = RouterIds::new(a);
+    for router in [2, 9, 2] {
+        ids.add(Serial(router), one)?;
+    }
+    ids.remove(Serial(2), one);
+    ids.remove(Serial(9), one);
+    let found = (
+        ids.times(Serial(2), one),
+        ids.has(Serial(9), one),
+        ids.has(Serial(2), other),
+    );
+    assert_eq!(rt; found, (1, false, false));
+    Ok(())
+}
+
+#[test]
+fn an_open_producer_is_found_by_its_id(rt: HostRuntime) -> Result<(), Fail> {
+    let mut kept = kept(rt.alloc(), 1, false)?;
+    let id = Id::of(7, 107);
+    let before = (
+        kept.producers.has_id(Serial(2), id),
+        kept.producers.has_id(Serial(9), id),
+    );
+    kept.forget(Serial(7));
+    assert_eq!(rt; before, (true, false));
+    assert!(rt; !kept.producers.has_id(Serial(2), id));
     Ok(())
 }
 
@@ -290,6 +334,36 @@ fn calls_of_one_object(rt: HostRuntime) -> Result<(), Fail> {
     )?;
     check(&rt, a, send(a, "gone", 12)?, "wrongkind")?;
     check(&rt, a, send(a, "p", 12)?, "own")?;
+    Ok(())
+}
+
+// The ids of the Router, the transport, the Producer and the Consumer of these serials; 0 names none.
+fn ids(router: u32, transport: u32, producer: u32, consumer: u32) -> Ids {
+    Ids {
+        router: named_id(router),
+        transport: named_id(transport),
+        producer: named_id(producer),
+        consumer: named_id(consumer),
+    }
+}
+
+fn named_id(serial: u32) -> Option<Id> {
+    if serial == 0 {
+        None
+    } else {
+        Some(id_of(serial))
+    }
+}
+
+#[test]
+fn closes(rt: HostRuntime) -> Result<(), Fail> {
+    let tree = tree(rt.alloc())?;
+    check_close(&rt, &tree, 1, None)?;
+    check_close(&rt, &tree, 11, Some(("router.close", ids(11, 0, 0, 0))))?;
+    check_close(&rt, &tree, 4, Some(("transport.close", ids(2, 4, 0, 0))))?;
+    check_close(&rt, &tree, 10, Some(("transport.close", ids(9, 10, 0, 0))))?;
+    check_close(&rt, &tree, 7, Some(("producer.close", ids(2, 4, 7, 0))))?;
+    check_close(&rt, &tree, 8, Some(("consumer.close", ids(2, 3, 6, 8))))?;
     Ok(())
 }
 

@@ -2,12 +2,14 @@
 
 ghost use Rattle.std.specs.Prelude.{◌≡◌, ◌≤◌, IfOk, option_map};
 ghost use Rattle.serde_json.specs.View.{view};
-ghost use Rattle.request_build.specs.Asks.{changes, connect_asked, connect_to, direct_asked, drawn, makes_new, new_object, new_transport, pipe_asked, pipe_of, plain_asked, router_asked, router_of_caps, transport_ids};
+ghost use Rattle.request_build.specs.Asks.{changes, connect_asked, connect_to, direct_asked, drawn, makes_new, new_object, pipe_asked, pipe_of, plain_asked, router_asked, router_of_caps};
 ghost use Rattle.request_build.specs.Built.{built_view};
+ghost use Rattle.request_build.specs.Known.{known};
 ghost use Rattle.request_build.specs.Rules.{Gives};
 
 use crate::builder::Builder;
 use crate::built::{BuildFault, Built, Draws, Keep};
+use crate::ids::transport_ids;
 use call_options::{PipeOptions, connect_options, pipe_options, plain_options, router_options};
 use ms_base::{Id, Kind, Name, NoMemory, Serial, Text, Tuple};
 use object_tree::Object;
@@ -15,23 +17,13 @@ use ortc_map::router_caps;
 use request_contents::{ids_of, method_of, write_connect, write_direct, write_pipe, write_plain};
 use rtp_params::Caps;
 use serde_json::Value;
-use worker_requests::{Asked, PipeContent, PlainContent, TransportIds};
-
-// The ids of a transport.
-fn transport_ids(router: &Object, transport: &Object) -> TransportIds
-    ensures { result ≡ transport_ids router.now transport.now }
-{
-    TransportIds {
-        router: router.id,
-        transport: transport.id,
-    }
-}
+use worker_requests::{Asked, PipeContent, PlainContent};
 
 impl<'k> Builder<'k> {
     // What is drawn from behind a serial and so many SSRCs.
     fn drawn(&self, ssrcs: u32) -> Draws
         requires { ssrcs ≤ 16 }
-        ensures { result ≡ drawn self.now ssrcs }
+        ensures { result ≡ drawn (known self.now) ssrcs }
     {
         Draws {
             seed: self.next.seed,
@@ -51,7 +43,7 @@ impl<'k> Builder<'k> {
         ssrcs: u32,
     ) -> Result<Built, NoMemory>
         requires { ssrcs ≤ 16 }
-        ensures { IfOk result (λ b. built_view b ≡ makes_new self.now asked (option_map view content) parent.now object keeps ssrcs) }
+        ensures { IfOk result (λ b. built_view b ≡ makes_new (known self.now) asked (option_map view content) parent.now object keeps ssrcs) }
     {
         Ok(Built::Ask {
             method: Text::from_str(self.alloc, method_of(&asked))?,
@@ -71,7 +63,7 @@ impl<'k> Builder<'k> {
         content: Option<Value>,
         object: &Object,
     ) -> Result<Built, NoMemory>
-        ensures { IfOk result (λ b. built_view b ≡ changes self.now asked (option_map view content) object.now) }
+        ensures { IfOk result (λ b. built_view b ≡ changes (known self.now) asked (option_map view content) object.now) }
     {
         Ok(Built::Ask {
             method: Text::from_str(self.alloc, method_of(&asked))?,
@@ -92,7 +84,7 @@ impl<'k> Builder<'k> {
         id: Id,
         parent: &Object,
     ) -> Result<Object, NoMemory>
-        ensures { IfOk result (λ o. o ≡ new_object self.now kind name.now id parent.now) }
+        ensures { IfOk result (λ o. o ≡ new_object (known self.now) kind name.now id parent.now) }
     {
         Ok(Object {
             serial: Serial(self.next.serial),
@@ -117,7 +109,7 @@ impl<'k> Builder<'k> {
         worker: &Object,
         options: &Text,
     ) -> Result<Built, BuildFault>
-        ensures { Gives built_view result (router_asked self.now name.now worker.now options.now) }
+        ensures { Gives built_view result (router_asked (known self.now) name.now worker.now options.now) }
     {
         let codecs = router_options(self.alloc, options)?;
         let caps = router_caps(self.alloc, codecs.as_slice())?;
@@ -125,7 +117,7 @@ impl<'k> Builder<'k> {
     }
 
     fn router_of_caps(&self, name: &Name, worker: &Object, caps: Caps) -> Result<Built, NoMemory>
-        ensures { IfOk result (λ b. built_view b ≡ router_of_caps self.now name.now worker.now caps) }
+        ensures { IfOk result (λ b. built_view b ≡ router_of_caps (known self.now) name.now worker.now caps) }
     {
         let router = self.new_object(Kind::Router, name, self.own_id(), worker)?;
         let asked = Asked::CreateRouter(router.id);
@@ -139,7 +131,7 @@ impl<'k> Builder<'k> {
         router: &Object,
         options: &Text,
     ) -> Result<Built, BuildFault>
-        ensures { Gives built_view result (plain_asked self.now name.now router.now options.now) }
+        ensures { Gives built_view result (plain_asked (known self.now) name.now router.now options.now) }
     {
         let given = plain_options(self.alloc, options)?;
         let comedia = given.comedia;
@@ -158,7 +150,7 @@ impl<'k> Builder<'k> {
         router: &Object,
         options: &Text,
     ) -> Result<Built, BuildFault>
-        ensures { Gives built_view result (pipe_asked self.now name.now router.now options.now) }
+        ensures { Gives built_view result (pipe_asked (known self.now) name.now router.now options.now) }
     {
         let given = pipe_options(self.alloc, options)?;
         Ok(self.pipe_of(name, router, given)?)
@@ -171,7 +163,7 @@ impl<'k> Builder<'k> {
         router: &Object,
         given: PipeOptions,
     ) -> Result<Built, NoMemory>
-        ensures { IfOk result (λ b. built_view b ≡ pipe_of self.now name.now router.now given) }
+        ensures { IfOk result (λ b. built_view b ≡ pipe_of (known self.now) name.now router.now given) }
     {
         let enable_rtx = given.enable_rtx;
         let ip = given.listen_ip;
@@ -185,7 +177,7 @@ impl<'k> Builder<'k> {
 
     /// A transport over the worker's channel.
     pub(crate) fn direct_asked(&self, name: &Name, router: &Object) -> Result<Built, NoMemory>
-        ensures { IfOk result (λ b. built_view b ≡ direct_asked self.now name.now router.now) }
+        ensures { IfOk result (λ b. built_view b ≡ direct_asked (known self.now) name.now router.now) }
     {
         let value = write_direct(self.alloc)?;
         let transport = self.new_object(Kind::Direct, name, self.own_id(), router)?;
@@ -199,7 +191,7 @@ impl<'k> Builder<'k> {
         transport: &Object,
         options: &Text,
     ) -> Result<Built, BuildFault>
-        ensures { Gives built_view result (connect_asked self.now transport.now options.now) }
+        ensures { Gives built_view result (connect_asked (known self.now) transport.now options.now) }
     {
         let to = connect_options(self.alloc, options)?;
         self.connect_to(transport, to)
@@ -207,7 +199,7 @@ impl<'k> Builder<'k> {
 
     /// A transport's other end, of options that were read.
     pub(crate) fn connect_to(&self, transport: &Object, to: Tuple) -> Result<Built, BuildFault>
-        ensures { Gives built_view result (connect_to self.now transport.now to) }
+        ensures { Gives built_view result (connect_to (known self.now) transport.now to) }
     {
         let router = self.above(transport)?;
         let value = write_connect(self.alloc, to)?;

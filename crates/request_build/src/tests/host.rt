@@ -7,7 +7,7 @@ ghost use Rattle.request_build.specs.Known.{HasFew, IsKept};
 use crate::{Draws, Keep, Kept, Offer, what_is_kept_has_few_encodings};
 use ms_base::{Id, Kind, Media, Name, Reason, Serial, Text};
 use object_tree::{Object, Tree};
-use rtp_params::{Caps, Items, Mapping, Params, read_caps, read_mapping, read_params};
+use rtp_params::{Caps, Mapping, Params, read_caps, read_mapping, read_params};
 use serde_json::Value;
 use std::alloc::Global;
 use std::test::Fail;
@@ -76,6 +76,11 @@ const OBJECTS: [(u32, &str, Kind, u32); 14] = [
     (14, "rtx", Kind::Pipe, 2),
 ];
 
+// The id of the object of a serial.
+pub(crate) fn id_of(serial: u32) -> Id {
+    Id::of(SEED, 100 + serial % 50)
+}
+
 fn object(alloc: Global, row: (u32, &str, Kind, u32)) -> Result<Object, Fail> {
     let (serial, named, kind, parent) = row;
     let is_shut = serial == 11 || serial == 12;
@@ -83,7 +88,7 @@ fn object(alloc: Global, row: (u32, &str, Kind, u32)) -> Result<Object, Fail> {
     Ok(Object {
         serial: Serial(serial),
         name: name(alloc, named)?,
-        id: Id::of(SEED, 100 + serial % 50),
+        id: id_of(serial),
         kind,
         parent: if parent == 0 {
             None
@@ -127,8 +132,11 @@ pub(crate) fn tree(alloc: Global) -> Result<Tree, Fail> {
     Ok(tree)
 }
 
-fn offer(alloc: Global, media: Media, text: &str) -> Result<Offer, Fail> {
+// What a Producer of the first Router offers.
+fn offer(alloc: Global, serial: u32, media: Media, text: &str) -> Result<Offer, Fail> {
     Ok(Offer {
+        router: Serial(2),
+        id: id_of(serial),
         media,
         mapping: mapping(alloc)?,
         params: params(alloc, text)?,
@@ -158,26 +166,14 @@ fn with(mut kept: Kept, serial: u32, keeps: Keep) -> Result<Kept, Fail>
     Ok(kept)
 }
 
-fn names(alloc: Global) -> Result<Items<Name>, Fail> {
-    let mut names = Vec::new(alloc);
-    names.push(name(alloc, "soon")?)?;
-    names.push(name(alloc, "k_c")?)?;
-    Ok(Items::from_vec(names))
-}
-
-fn producer_ids(alloc: Global) -> Result<Items<(Serial, Id)>, Fail> {
-    let mut ids = Vec::new(alloc);
-    ids.push((Serial(2), Id::of(SEED, 77)))?;
-    Ok(Items::from_vec(ids))
-}
-
 fn nothing_kept(alloc: Global, slots: u32, stopped: bool) -> Result<Kept, Fail>
     ensures { IfOk result IsKept }
 {
     what_is_kept_has_few_encodings();
     let mut kept = Kept::new(alloc);
-    kept.names = names(alloc)?;
-    kept.producer_ids = producer_ids(alloc)?;
+    kept.names.add(alloc, &name(alloc, "soon")?)?;
+    kept.names.add(alloc, &name(alloc, "k_c")?)?;
+    kept.producer_ids.add(Serial(2), Id::of(SEED, 77))?;
     kept.slots = slots;
     kept.stopped = stopped;
     Ok(kept)
@@ -189,8 +185,12 @@ pub(crate) fn kept(alloc: Global, slots: u32, stopped: bool) -> Result<Kept, Fai
     let kept = nothing_kept(alloc, slots, stopped)?;
     let kept = with(kept, 2, Keep::Router(caps(alloc)?))?;
     let kept = with(kept, 9, Keep::Router(caps(alloc)?))?;
-    let kept = with(kept, 6, Keep::Producer(offer(alloc, Media::Audio, OFFER)?))?;
-    let kept = with(kept, 7, Keep::Producer(offer(alloc, Media::Video, TWO)?))?;
+    let kept = with(
+        kept,
+        6,
+        Keep::Producer(offer(alloc, 6, Media::Audio, OFFER)?),
+    )?;
+    let kept = with(kept, 7, Keep::Producer(offer(alloc, 7, Media::Video, TWO)?))?;
     let kept = with(kept, 8, Keep::Consumer(params(alloc, OFFER)?))?;
     let kept = with(kept, 5, Keep::Pipe(false))?;
     with(kept, 14, Keep::Pipe(true))

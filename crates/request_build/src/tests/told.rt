@@ -4,8 +4,11 @@ ghost use Rattle.std.specs.Prelude.{◌≡◌, true};
 ghost use Rattle.request_build.specs.Columns.{HasShortName};
 
 use crate::tests::host::{NEXT, kept, tree};
-use crate::{BuildFault, Built, Draws, build, build_part};
+use crate::{BuildFault, Built, Draws, build, build_close, build_part};
+use channel_msgs::Ids;
 use ms_base::{Op, Outcome, Part, Serial, Text};
+use object_tree::Tree;
+use request_contents::{ids_of, method_of};
 use serde_json::Value;
 use std::alloc::Global;
 use std::process::Abort;
@@ -140,4 +143,23 @@ pub(crate) fn check_part(
 fn answer_to_part(alloc: Global, part: Part) -> Result<String, Fail> {
     let (tree, kept) = (tree(alloc)?, kept(alloc, 1, false)?);
     told(alloc, build_part(alloc, &tree, &kept, &part, NEXT))
+}
+
+// Compares the method and the ids that close the object of a serial.
+pub(crate) fn check_close(
+    rt: &impl Abort,
+    tree: &Tree,
+    serial: u32,
+    expected: Option<(&str, Ids)>,
+) -> Result<(), Fail> {
+    let object = tree.get(Serial(serial)).ok_or("no such object")?;
+    match (build_close(tree, object), expected) {
+        (Some(asked), Some((method, ids))) => {
+            assert_eq!(rt; method_of(&asked), method);
+            assert_eq!(rt; ids_of(&asked), ids);
+            Ok(())
+        }
+        (None, None) => Ok(()),
+        _ => Err("another close".into()),
+    }
 }

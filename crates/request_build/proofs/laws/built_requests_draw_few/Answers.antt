@@ -1,0 +1,7 @@
+use Rattle.request_build.proofs.laws.built_requests_draw_few.Goals as goal
+
+pub returns-clause-calls : goal.returns-clause-calls
+returns-clause-calls c = λ k op request few is. ((c.built_requests_are_sound.ensures.calls k op).if_asked request is).drawn few
+
+pub returns-clause-parts : goal.returns-clause-parts
+returns-clause-parts c = λ k part request few is. ((c.built_requests_are_sound.ensures.parts k part).if_asked request is).drawn few
