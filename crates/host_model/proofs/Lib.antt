@@ -1,0 +1,15 @@
+pub mod Along
+pub mod BuiltLemmas
+pub mod Changes
+pub mod CloseLemmas
+pub mod Counts
+pub mod EnterLemmas
+pub mod FallLemmas
+pub mod FitLemmas
+pub mod InARow
+pub mod NumberLemmas
+pub mod Objects
+pub mod SentLemmas
+pub mod SettleLemmas
+pub mod Tables
+pub mod Waiting

@@ -1,0 +1,9 @@
+pub mod Answer
+pub mod Changes
+pub mod Falls
+pub mod Fit
+pub mod Laws
+pub mod Rows
+pub mod Run
+pub mod State
+pub mod Step
