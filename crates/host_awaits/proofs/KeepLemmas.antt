@@ -7,7 +7,7 @@ use Rattle.std.proofs.lemmas.List.Sorted.{list_any-IsPermutation}
 use Rattle.std.proofs.lemmas.Map.Text.{is_eq-slice_cmp}
 use Rattle.std.specs.BTreeMap.{insert_entry, is_at}
 use Rattle.std.specs.Cmp.Lexicographic.{bytes_decides, slice_cmp}
-use Rattle.std.specs.List.{AllByRecursion, list_any}
+use Rattle.std.specs.List.{AllByRecursion}
 use Rattle.std.specs.List.Sorted.{IsPermutation}
 use Rattle.std.specs.Map.{lookup}
 use Rattle.std.specs.Ordering.{nat_cmp}
@@ -17,7 +17,7 @@ use Rattle.ms_base.specs.declared.keys.Event.{Event}
 use Rattle.host_awaits.specs.Awaits.{is_event, same_event}
 use Rattle.host_awaits.specs.Keeping.{AreBelow, AreKept, AreRising, Entries, IsKnown, rests, times_seen, watched}
 use Rattle.host_awaits.specs.Names.{has_number, noted, resting, times_of}
-use Rattle.host_awaits.specs.Settling.{IsDone, awaits_of}
+use Rattle.host_awaits.specs.Settling.{HaveNoneAtRest, awaits_of}
 use Rattle.host_awaits.specs.Watching.{HasNoneYet, Watched, Watching, awaits_in, just_entered, looked_at, times_in, times_within, touched_by}
 use Rattle.host_awaits.specs.declared.entered.Await.{Await}
 use Rattle.host_awaits.specs.declared.names.Names.{Names}
@@ -161,13 +161,6 @@ kept-none names es touched none idle =
       known = tt;
     })
 
-pub none-touched : (names : Names) (es : Entries) → AllByRecursion (IsKnown names []) es → list_any (λ (x : Watched). x.touched) (map (watched names) es) ≡ false
-none-touched names [] h = refl
-none-touched names (e ∷ es) h = elim (cases_Bool (rests names e)) [
-  | inl t ↦ rw t (none-touched names es h.1)
-  | inr f ↦ absurd (let clash : false ≡ true = h.0 f in cc)
-]
-
 -- ---- settling
 
 pub times-same : (names : Names) (waiting : List Watched) (old : Watching) → seen names waiting ≡ old → noted names ≡ times_in old
@@ -180,21 +173,21 @@ awaits-watched names (e ∷ es) = ap (λ l. e.1 ∷ l) (awaits-watched names es)
 pub awaits-same : (names : Names) (es : Entries) (old : Watching) → seen names (map (watched names) es) ≡ old → awaits_of es ≡ awaits_in old
 awaits-same names es old view = awaits-watched names es ∙ ap awaits_in view
 
-ready-at : (times : List ℕ → Event → ℕ) (hopeless : List ℕ → Bool) (names : Names) (touched sorted : List ℕ) → IsPermutation touched sorted → (es : Entries) → AllByRecursion (IsKnown names touched) es
-    → AllByRecursion (HasNoneYet times hopeless) (map (watched names) es) → AllByRecursion (IsDone times hopeless names sorted) es
-ready-at times hopeless names touched sorted moved [] known yet = tt
-ready-at times hopeless names touched sorted moved (e ∷ es) known yet =
-    let here : IsDone times hopeless names sorted e =
-    λ out. elim (cases_Bool (rests names e)) [
-      | inl t ↦ record { none = yet.0 (ap not t); at_rest = t }
-      | inr f ↦ absurd (let there = list_any-IsPermutation (nat_eq e.0) touched sorted moved in let clash : true ≡ false = sym (known.0 f) ∙ (there ∙ out) in cc)
-    ] in
-    (here, ready-at times hopeless names touched sorted moved es known.1 yet.1)
+-- what isn't at rest is still known, where the numbers to be looked at were put in order
+pub known-sorted : (names : Names) (touched sorted : List ℕ) → IsPermutation touched sorted → (es : Entries) → AllByRecursion (IsKnown names touched) es → AllByRecursion (IsKnown names sorted) es
+known-sorted names touched sorted moved es known =
+    all-weaker (IsKnown names touched) (IsKnown names sorted) es (λ e was f. sym (list_any-IsPermutation (nat_eq e.0) touched sorted moved) ∙ was f) known
 
-pub ready : (hopeless : List ℕ → Bool) (names : Names) (touched sorted : List ℕ) → IsPermutation touched sorted → (es : Entries) (old : Watching) → seen names (map (watched names) es) ≡ old
-    → AllByRecursion (IsKnown names touched) es → AllByRecursion (HasNoneYet (times_in old) hopeless) old.waiting → AllByRecursion (IsDone (noted names) hopeless names sorted) es
-ready hopeless names touched sorted moved es old view known yet =
-    ready-at (noted names) hopeless names touched sorted moved es known
+none-at-rest : (times : List ℕ → Event → ℕ) (hopeless : List ℕ → Bool) (names : Names) (es : Entries) → AllByRecursion (HasNoneYet times hopeless) (map (watched names) es)
+    → HaveNoneAtRest times hopeless names es
+none-at-rest times hopeless names [] yet = tt
+none-at-rest times hopeless names (e ∷ es) yet = ((λ t. yet.0 (ap not t)), none-at-rest times hopeless names es yet.1)
+
+-- those of whose names nothing has changed have no outcome, and they are those at rest
+pub none-unless-touched : (hopeless : List ℕ → Bool) (names : Names) (es : Entries) (old : Watching) → seen names (map (watched names) es) ≡ old
+    → AllByRecursion (HasNoneYet (times_in old) hopeless) old.waiting → HaveNoneAtRest (noted names) hopeless names es
+none-unless-touched hopeless names es old view yet =
+    none-at-rest (noted names) hopeless names es
     (subst (λ l. AllByRecursion (HasNoneYet (noted names) hopeless) l) (sym (ap (λ w. w.waiting) view))
     (subst (λ t. AllByRecursion (HasNoneYet t hopeless) old.waiting) (sym (times-same names (map (watched names) es) old view)) yet))
 

@@ -10,7 +10,7 @@ use Rattle.ms_base.specs.declared.keys.CallKey.{CallKey}
 use Rattle.ms_base.specs.declared.keys.Event.{Event}
 use Rattle.ms_base.specs.declared.outcome.Outcome.{Outcome}
 use Rattle.host_awaits.specs.Awaits.{outcome_of}
-use Rattle.host_awaits.specs.Keeping.{AreRising, Entries, rests}
+use Rattle.host_awaits.specs.Keeping.{AreRising, Entries, IsKnown, rests}
 use Rattle.host_awaits.specs.Names.{has_number, noted, resting}
 use Rattle.host_awaits.specs.declared.entered.Await.{Await}
 use Rattle.host_awaits.specs.declared.names.Names.{Names}
@@ -34,20 +34,27 @@ pub data Looked (hopeless : List ℕ → Bool) (number : ℕ) (names : Names) (o
   settles : (a : Await) (o : Outcome) → numbered number old ≡ Some a → outcome_of (noted names) hopeless a ≡ Some o → ((of : List ℕ) → resting after of ≡ resting names of)
       → new ≡ remove_entry (is_at (nat_cmp number)) old → settled ≡ before ++ (a.key, o) ∷ [] → Looked hopeless number names old before after new settled
 
--- an await that isn't to be looked at any more has no outcome, and is at rest
-pub record HasNoneAtRest (times : List ℕ → Event → ℕ) (hopeless : List ℕ → Bool) (names : Names) (e : ℕ × Await) : Type 0 where
-  pub none : outcome_of times hopeless e.1 ≡ None
-  pub at_rest : rests names e ≡ true
+-- an await is at rest, or has no outcome
+abbrev pub IsAtRest : Names → ℕ × Await → Type 0
+IsAtRest names e = rests names e ≡ true
 
-abbrev pub IsDone : (List ℕ → Event → ℕ) → (List ℕ → Bool) → Names → List ℕ → ℕ × Await → Type 0
-IsDone times hopeless names left e = has_number left e.0 ≡ false → HasNoneAtRest times hopeless names e
+abbrev pub HasNone : (List ℕ → Event → ℕ) → (List ℕ → Bool) → ℕ × Await → Type 0
+HasNone times hopeless e = outcome_of times hopeless e.1 ≡ None
+
+-- awaits at rest have no outcome
+abbrev pub HaveNoneAtRest : (List ℕ → Event → ℕ) → (List ℕ → Bool) → Names → Entries → Type 0
+HaveNoneAtRest times hopeless names entries = AllByRecursion (λ e. IsAtRest names e → HasNone times hopeless e) entries
+
+-- it holds of an await that isn't to be looked at any more
+abbrev pub OnceDone : (ℕ × Await → Type 0) → List ℕ → ℕ × Await → Type 0
+OnceDone holds left e = has_number left e.0 ≡ false → holds e
 
 -- the awaits without their numbers
 abbrev pub awaits_of : Entries → List Await
 awaits_of entries = map (λ e. e.1) entries
 
--- all that aren't to be looked at are done
-pub record AreReady (times : List ℕ → Event → ℕ) (hopeless : List ℕ → Bool) (names : Names) (entries : Entries) (touched : List ℕ) : Type 0 where
+-- all that aren't at rest are to be looked at, in order
+pub record AreReady (names : Names) (entries : Entries) (touched : List ℕ) : Type 0 where
   pub rising : AreRising entries
   pub in_order : IsNonDecreasing touched
-  pub done : AllByRecursion (IsDone times hopeless names touched) entries
+  pub known : AllByRecursion (IsKnown names touched) entries

@@ -1,5 +1,5 @@
-ghost use Rattle.std.specs.Prelude.{◌≡◌, ℕ, ◌+◌, List, [], ◌∷◌, ◌++◌, map, option_map, false, IsTrue, OnOk, IfOk, if◌then◌else◌};
-ghost use Rattle.std.specs.List.{AllByRecursion, list_any};
+ghost use Rattle.std.specs.Prelude.{◌≡◌, ℕ, ◌+◌, List, [], ◌∷◌, ◌++◌, map, option_map, OnOk, IfOk, if◌then◌else◌};
+ghost use Rattle.std.specs.List.{AllByRecursion};
 ghost use Rattle.std.specs.Str.{bytes_eq};
 ghost use Rattle.ms_base.specs.declared.keys.Event.{Event};
 ghost use Rattle.host_awaits.specs.Awaits.{counts, event_of, tells_of, settled_by, waiting_by};
@@ -60,13 +60,6 @@ impl Awaits {
         }
     }
 
-    /// Whether no await has to be looked at.
-    pub fn is_quiet(&self) -> bool
-        ensures { IsTrue result → list_any (λ x. x.touched) self.now.waiting ≡ false }
-    {
-        self.touched.is_empty()
-    }
-
     /// Counts a note, where it is of an event.
     pub fn hear(&mut self, note: &Note) -> Result<(), NoMemory>
         ensures waiting { OnOk result (self.new.waiting ≡ map (touched_by (λ name. tells_of name note.now)) self.old.waiting) }
@@ -102,11 +95,10 @@ impl Awaits {
     }
 
     /// Takes out the awaits that settle, and answers what each comes to, in order of their entry. It looks at those
-    /// alone of whose names something has changed.
+    /// alone of whose names something has changed: these are all where the others have no outcome.
     pub fn settle<S: Standing>(&mut self, standing: &S) -> Result<Vec<(CallKey, Outcome)>, NoMemory>
-        requires { AllByRecursion (HasNoneYet (times_in self.old) (S.hopeless standing.now)) self.old.waiting }
-        ensures settled { IfOk result (λ list. list.items ≡ settled_by (times_in self.old) (S.hopeless standing.now) (awaits_in self.old)) }
-        ensures waiting { OnOk result (self.new.waiting ≡ map looked_at (waiting_by (times_in self.old) (S.hopeless standing.now) (awaits_in self.old))) }
+        ensures settled { IfOk result (λ list. AllByRecursion (HasNoneYet (times_in self.old) (S.hopeless standing.now)) self.old.waiting → list.items ≡ settled_by (times_in self.old) (S.hopeless standing.now) (awaits_in self.old)) }
+        ensures waiting { OnOk result (AllByRecursion (HasNoneYet (times_in self.old) (S.hopeless standing.now)) self.old.waiting → self.new.waiting ≡ map looked_at (waiting_by (times_in self.old) (S.hopeless standing.now) (awaits_in self.old))) }
         ensures times { OnOk result ((name : List ℕ) (event : Event) → times_in self.new name event ≡ times_in self.old name event) }
     {
         self.touched.sort_unstable();

@@ -4,7 +4,7 @@ ghost use Rattle.ms_base.specs.declared.keys.Event.{Event};
 ghost use Rattle.host_awaits.specs.Awaits.{outcome_of, settled_by, waiting_by};
 ghost use Rattle.host_awaits.specs.Keeping.{AreBelow, AreRising, IsKnown, rests};
 ghost use Rattle.host_awaits.specs.Names.{noted, resting};
-ghost use Rattle.host_awaits.specs.Settling.{AreReady, Looked, awaits_of};
+ghost use Rattle.host_awaits.specs.Settling.{AreReady, HaveNoneAtRest, Looked, awaits_of};
 
 use crate::entered::Await;
 use crate::names::Names;
@@ -14,7 +14,7 @@ use std::alloc::Global;
 use std::collections::BTreeMap;
 
 /// Looks at the awaits of these numbers, which stand in order. Those that settle are taken out, with what each comes
-/// to; the others are at rest.
+/// to; the others are at rest. These are all that settle where those at rest have no outcome.
 pub(crate) fn look_at_each<S: Standing>(
     alloc: Global,
     numbers: &[u64],
@@ -22,12 +22,12 @@ pub(crate) fn look_at_each<S: Standing>(
     names: &mut Names,
     waiting: &mut BTreeMap<u64, Await>,
 ) -> Result<Vec<(CallKey, Outcome)>, NoMemory>
-    requires { AreReady (noted names.old) (S.hopeless standing.now) names.old waiting.old.entries numbers.now }
+    requires { AreReady names.old waiting.old.entries numbers.now }
     ensures noted { (name : List ℕ) (e : Event) → noted names.new name e ≡ noted names.old name e }
     ensures rising { AreRising waiting.new.entries }
     ensures below { (next : ℕ) → AreBelow next waiting.old.entries names.old → AreBelow next waiting.new.entries names.new }
-    ensures settled { IfOk result (λ list. list.items ≡ settled_by (noted names.old) (S.hopeless standing.now) (awaits_of waiting.old.entries)) }
-    ensures waiting { OnOk result (awaits_of waiting.new.entries ≡ waiting_by (noted names.old) (S.hopeless standing.now) (awaits_of waiting.old.entries)) }
+    ensures settled { IfOk result (λ list. HaveNoneAtRest (noted names.old) (S.hopeless standing.now) names.old waiting.old.entries → list.items ≡ settled_by (noted names.old) (S.hopeless standing.now) (awaits_of waiting.old.entries)) }
+    ensures waiting { OnOk result (HaveNoneAtRest (noted names.old) (S.hopeless standing.now) names.old waiting.old.entries → awaits_of waiting.new.entries ≡ waiting_by (noted names.old) (S.hopeless standing.now) (awaits_of waiting.old.entries)) }
     ensures at_rest { OnOk result (AllByRecursion (λ e. rests names.new e ≡ true) waiting.new.entries) }
     ensures err { OnErr result (AllByRecursion (IsKnown names.new numbers.now) waiting.new.entries) }
 {

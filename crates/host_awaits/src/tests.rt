@@ -1,6 +1,3 @@
-ghost use Rattle.std.specs.Prelude.{◌≡◌, true, OnOk};
-ghost use Rattle.std.specs.List.{AllByRecursion};
-
 use crate::{Await, Awaits, Standing};
 use ms_base::{CallKey, Event, Id, Kind, Name, Outcome, Reason, Serial, Verdict};
 use std::alloc::Global;
@@ -45,10 +42,7 @@ fn enter(
     name: &[u8],
     event: Event,
     count: u32,
-) -> Result<(), Fail>
-    requires { AllByRecursion (λ x. x.touched ≡ true) awaits.old.waiting }
-    ensures { OnOk result (AllByRecursion (λ x. x.touched ≡ true) awaits.new.waiting) }
-{
+) -> Result<(), Fail> {
     let name = Name::read(alloc, name)?;
     let key = CallKey { lane: 1, place };
     awaits.add(Await {
@@ -60,19 +54,8 @@ fn enter(
     Ok(())
 }
 
-fn hear(awaits: &mut Awaits, note: &Note) -> Result<(), Fail>
-    requires { AllByRecursion (λ x. x.touched ≡ true) awaits.old.waiting }
-    ensures { OnOk result (AllByRecursion (λ x. x.touched ≡ true) awaits.new.waiting) }
-{
-    awaits.hear(note)?;
-    Ok(())
-}
-
 // Four awaits, for one note of `b` and for three, two and one of `a`.
-fn four(alloc: Global, awaits: &mut Awaits) -> Result<(), Fail>
-    requires { AllByRecursion (λ x. x.touched ≡ true) awaits.old.waiting }
-    ensures { OnOk result (AllByRecursion (λ x. x.touched ≡ true) awaits.new.waiting) }
-{
+fn four(alloc: Global, awaits: &mut Awaits) -> Result<(), Fail> {
     enter(alloc, awaits, 1, b"b", Event::Closed, 1)?;
     enter(alloc, awaits, 2, b"a", Event::Opened, 3)?;
     enter(alloc, awaits, 3, b"a", Event::Opened, 2)?;
@@ -81,19 +64,14 @@ fn four(alloc: Global, awaits: &mut Awaits) -> Result<(), Fail>
 }
 
 // The notes `open a`, `closed b`, `open a`.
-fn three_notes(alloc: Global, awaits: &mut Awaits) -> Result<(), Fail>
-    requires { AllByRecursion (λ x. x.touched ≡ true) awaits.old.waiting }
-    ensures { OnOk result (AllByRecursion (λ x. x.touched ≡ true) awaits.new.waiting) }
-{
-    hear(awaits, &opened(alloc, b"a")?)?;
-    hear(awaits, &closed(alloc, b"b")?)?;
-    hear(awaits, &opened(alloc, b"a")?)?;
+fn three_notes(alloc: Global, awaits: &mut Awaits) -> Result<(), Fail> {
+    awaits.hear(&opened(alloc, b"a")?)?;
+    awaits.hear(&closed(alloc, b"b")?)?;
+    awaits.hear(&opened(alloc, b"a")?)?;
     Ok(())
 }
 
-fn settle(awaits: &mut Awaits, hopeless: bool) -> Result<Vec<(CallKey, Outcome)>, Fail>
-    requires { AllByRecursion (λ x. x.touched ≡ true) awaits.old.waiting }
-{
+fn settle(awaits: &mut Awaits, hopeless: bool) -> Result<Vec<(CallKey, Outcome)>, Fail> {
     Ok(awaits.settle(&Stands { hopeless })?)
 }
 
@@ -139,14 +117,13 @@ fn hopeless_awaits_are_missed_in_order(rt: HostRuntime) -> Result<(), Fail> {
 #[test]
 fn only_what_has_changed_is_looked_at(rt: HostRuntime) -> Result<(), Fail> {
     let mut awaits = Awaits::new(rt.alloc());
-    assert_eq!(rt; awaits.is_quiet(), true);
     four(rt.alloc(), &mut awaits)?;
-    assert_eq!(rt; awaits.is_quiet(), false);
     assert_eq!(rt; settle(&mut awaits, false)?.len(), 0);
-    assert_eq!(rt; awaits.is_quiet(), true);
+    // All names are hopeless now, which nobody has said.
+    assert_eq!(rt; settle(&mut awaits, true)?.len(), 0);
     awaits.touch(&Name::read(rt.alloc(), b"c")?)?;
-    assert_eq!(rt; awaits.is_quiet(), true);
+    assert_eq!(rt; settle(&mut awaits, true)?.len(), 0);
     awaits.touch(&Name::read(rt.alloc(), b"a")?)?;
-    assert_eq!(rt; awaits.is_quiet(), false);
+    assert_eq!(rt; settle(&mut awaits, true)?.len(), 3);
     Ok(())
 }
