@@ -57,7 +57,7 @@ use Rattle.host_model.specs.Answer.{Answer, Refuses, AddsWorker, Issues, Closes,
 use Rattle.host_model.specs.Changes.{all_noted, call_settled, is_quiet, noted, object_opened, owner_settled, request_issued, turn_notes, turned, turned_from}
 use Rattle.host_model.specs.Falls.{all_closed, close_sent, close_sent_by, close_sent_to, close_sent_under, closes_sent, fallen, is_known, name_of, objects_closed, request_closed, requests_closed}
 use Rattle.host_model.specs.Step.{Micro, Calls, Awaits, Starting, Comes, Says, Breaks, accepted_by, answered, awaited, called, comes_out, due_by, flagged, heard, heard_by, hear, if_found, is_starting, made, noticed, object_of, opened_by, packet_told, ran, replied_to, settle_awaits, settled_with, start_settled, step, worker_wanted}
-use Rattle.host_model.proofs.Objects.{IsAlike, alike-itself}
+use Rattle.host_model.proofs.Objects.{IsAlike, KeepsLinks, alike-itself}
 
 -- ---- what is in hand
 
@@ -73,9 +73,11 @@ going calls taken s = record { calls = calls; taken = taken; state = s }
 abbrev pub at_rest : State → Going
 at_rest s = going [] [] s
 
--- a note that says neither that a call has settled, nor that an object has closed, nor that a request went to a worker
+-- a note that says neither that a call has settled, nor that an object has opened or closed, nor that a request went to a
+-- worker
 abbrev pub IsPlain : Note → Type 0
 IsPlain (note.Settled call outcome) = ⊥
+IsPlain (note.Open serial kind name id) = ⊥
 IsPlain (note.Closed serial name reason) = ⊥
 IsPlain (note.Sent worker payload) = ⊥
 IsPlain other = ⊤
@@ -109,7 +111,8 @@ pub data Change : Going → Going → Type 0 where
   both : {g h i : Going} → Change g h → Change h i → Change g i
   notes : {calls : List CallKey} {taken : List (Request Due)} {s : State} (ns : List Note) → AllByRecursion IsPlain ns
       → Change (going calls taken s) (going calls taken (all_noted ns s))
-  slots : {calls : List CallKey} {taken : List (Request Due)} {s : State} (xs : List Slot) → Change (going calls taken s) (going calls taken (record s { slots = xs }))
+  slots : {calls : List CallKey} {taken : List (Request Due)} {s : State} (worker : WorkerKey)
+      → Change (going calls taken s) (going calls taken (record s { slots = with_up worker s.slots }))
   streams : {calls : List CallKey} {taken : List (Request Due)} {s : State} (xs : List Stream) → Change (going calls taken s) (going calls taken (record s { streams = xs }))
   settles_call : {calls : List CallKey} {taken : List (Request Due)} {s : State} (call : CallKey) (outcome : Outcome) (names : List (List ℕ))
       → Change (going (call ∷ calls) taken s) (going calls taken (call_settled call outcome names s))
@@ -131,7 +134,7 @@ pub data Change : Going → Going → Type 0 where
       → IsAlike object o → o.closed ≡ object.closed → Change (going calls (r ∷ taken) s) (going calls (done r ∷ taken) (object_opened o keeps s))
   settles_taken : {calls : List CallKey} {taken : List (Request Due)} {s : State} (r : Request Due) (outcome : Outcome) (names : List (List ℕ))
       → Change (going calls (r ∷ taken) s) (going calls taken (owner_settled r.owner outcome names s))
-  marks : {calls : List CallKey} {taken : List (Request Due)} {s : State} (serial : Serial) (m : Mark)
+  marks : {calls : List CallKey} {taken : List (Request Due)} {s : State} (serial : Serial) (m : Mark) → KeepsLinks m
       → Change (going calls taken s) (going calls taken (record s { objects = with_mark serial m s.objects }))
   falls_with : {calls : List CallKey} {s : State} (roots : List Serial) (why : Reason)
       → Change (going calls [] s) (going calls (map done (filter (is_under (falls s.objects roots)) (waiting s.requests))) (fallen_with roots why s))
@@ -219,7 +222,7 @@ module _ (calls : List CallKey) where
 -- ---- calls
 
 -- what is known of an answer
-abbrev IsFrom : State → Op → Answer → Type 0
+abbrev pub IsFrom : State → Op → Answer → Type 0
 IsFrom s op (Issues r channel payload) = IsAsked s op r channel payload
 IsFrom s op other = ⊤
 
@@ -263,7 +266,7 @@ own-from s asked (op.Close name) b = closes-from s asked (named s.objects name)
 own-from s asked (op.Send producer packet) b = sends-from s asked packet (named s.objects producer)
 own-from s asked other b = tells-from s asked b
 
-answered-from : (s : State) (op : Op) (b : Result Built BuildFault) → built (known s) op ≡ b → IsFrom s op (answered_by s op b)
+pub answered-from : (s : State) (op : Op) (b : Result Built BuildFault) → built (known s) op ≡ b → IsFrom s op (answered_by s op b)
 answered-from s op (Err (fault.Refused outcome)) e = tt
 answered-from s op (Err fault.NoMemory) e = tt
 answered-from s op (Ok (Ask r)) e = channel-from s op r (option_and_then (channel_to s) (numbered s.objects r.under)) e
@@ -279,7 +282,7 @@ answered-is s call op (Tells told) h = settles_call call (outcome.Answer told) [
 answered-is s call op (Sends channel producer packet) h = both (notes (note.SentRtp channel producer packet ∷ []) (tt, tt)) (settles_call call outcome.Done [])
 
 -- no answer looks at the calls
-from-entered : (s : State) (calls : List CallKey) (op : Op) (a : Answer) → IsFrom s op a → IsFrom (record s { calls = calls }) op a
+pub from-entered : (s : State) (calls : List CallKey) (op : Op) (a : Answer) → IsFrom s op a → IsFrom (record s { calls = calls }) op a
 from-entered s calls op (Refuses outcome) h = tt
 from-entered s calls op (AddsWorker name budget) h = tt
 from-entered s calls op (Issues r channel payload) h = record { built_is = h.built_is; ids_left = h.ids_left; written = h.written }
@@ -307,7 +310,7 @@ pub record IsMade (object o : Object) : Type 0 where
   pub alike : IsAlike object o
   pub opened : o.closed ≡ object.closed
 
-abbrev IsMadeIfAny : Object → Option Object → Type 0
+abbrev pub IsMadeIfAny : Object → Option Object → Type 0
 IsMadeIfAny object None = ⊤
 IsMadeIfAny object (Some o) = IsMade object o
 
@@ -320,9 +323,9 @@ made-by-tuple object (Some tuple) = made-itself object
 
 made-by-flags : (object : Object) (f : Option Flags) → IsMadeIfAny object (option_map (flagged object) f)
 made-by-flags object None = tt
-made-by-flags object (Some f) = record { alike = record { serial = refl; id = refl; kind = refl; parent = refl; name = refl }; opened = refl }
+made-by-flags object (Some f) = record { alike = record { serial = refl; id = refl; kind = refl; parent = refl; name = refl; far = refl }; opened = refl }
 
-made-is : (object : Object) (k : Kind) (content : Option Data) → IsMadeIfAny object (made object k content)
+pub made-is : (object : Object) (k : Kind) (content : Option Data) → IsMadeIfAny object (made object k content)
 made-is object kind.Plain content = made-by-tuple object (local_tuple content)
 made-is object kind.Pipe content = made-by-tuple object (local_tuple content)
 made-is object kind.Consumer content = made-by-flags object (consume_flags content)
@@ -339,16 +342,16 @@ turn-plain before after false true = (tt, tt)
 turn-plain before after false false = tt
 
 module _ (taken : List (Request Due)) where
-  turned_from-is : (s : State) (serial : Serial) (m : Mark) (o : Option Object) → Change (going [] taken s) (going [] taken (turned_from o m s))
-  turned_from-is s serial m None = still
-  turned_from-is s serial m (Some o) = at (is_open o)
+  turned_from-is : (s : State) (serial : Serial) (m : Mark) → KeepsLinks m → (o : Option Object) → Change (going [] taken s) (going [] taken (turned_from o m s))
+  turned_from-is s serial m keeps None = still
+  turned_from-is s serial m keeps (Some o) = at (is_open o)
     where
       at : (b : Bool) → Change (going [] taken s) (going [] taken (cond b (all_noted (turn_notes o (marked m o)) (record s { objects = with_mark o.serial m s.objects })) s))
-      at true = both (marks o.serial m) (notes (turn_notes o (marked m o)) (turn-plain o (marked m o) (is_quiet o) (is_quiet (marked m o))))
+      at true = both (marks o.serial m keeps) (notes (turn_notes o (marked m o)) (turn-plain o (marked m o) (is_quiet o) (is_quiet (marked m o))))
       at false = still
 
-  turned-is : (s : State) (serial : Serial) (m : Mark) → Change (going [] taken s) (going [] taken (turned serial m s))
-  turned-is s serial m = turned_from-is s serial m (numbered s.objects serial)
+  turned-is : (s : State) (serial : Serial) (m : Mark) → KeepsLinks m → Change (going [] taken s) (going [] taken (turned serial m s))
+  turned-is s serial m keeps = turned_from-is s serial m keeps (numbered s.objects serial)
 
 -- ---- a reply
 
@@ -359,7 +362,7 @@ opened_by-is s r object keeps is (Some o) h = both (opens r object keeps o is h.
 
 accepted_by-is : (s : State) (r : Request Due) (content : Option Data) (d : Due) → r.due ≡ d → Change (going [] (r ∷ []) s) (at_rest (accepted_by d content r s))
 accepted_by-is s r content (due.Opens object keeps) is = opened_by-is s r object keeps is (made object object.kind content) (made-is object object.kind content)
-accepted_by-is s r content (due.Turns paused) is = both (turned-is (r ∷ []) s r.under (mark.Paused paused)) (settles_taken r outcome.Done [])
+accepted_by-is s r content (due.Turns paused) is = both (turned-is (r ∷ []) s r.under (mark.Paused paused) tt) (settles_taken r outcome.Done [])
 accepted_by-is s r content due.Nothing is = settles_taken r outcome.Done []
 
 settled_with-is : (s : State) (r : Request Due) (a : AnswerView) → Change (going [] (r ∷ []) s) (at_rest (settled_with a r s))
@@ -383,10 +386,10 @@ start-is : (s : State) (x : Slot) (r : Option (Request Due)) → waiting_for (ha
     (start_settled r
     (noted (note.Running x.name x.key.generation)
     (record s { objects = with_mark x.worker mark.Running s.objects; requests = settled_where (is_start_of x.worker) s.requests }))))
-start-is s x None e = both (takes_none (start_of x.worker) e) (both (marks x.worker mark.Running) (notes (note.Running x.name x.key.generation ∷ []) (tt, tt)))
+start-is s x None e = both (takes_none (start_of x.worker) e) (both (marks x.worker mark.Running tt) (notes (note.Running x.name x.key.generation ∷ []) (tt, tt)))
 start-is s x (Some r) e =
     both (takes (start_of x.worker) r e)
-    (both (marks x.worker mark.Running) (both (notes (note.Running x.name x.key.generation ∷ []) (tt, tt)) (settles_taken r outcome.Done [])))
+    (both (marks x.worker mark.Running tt) (both (notes (note.Running x.name x.key.generation ∷ []) (tt, tt)) (settles_taken r outcome.Done [])))
 
 says_it_runs-is : (s : State) (x : Slot) (b : Bool) → Change (at_rest s) (at_rest (cond b (ran x s) (noted (note.Stray x.key) s)))
 says_it_runs-is s x true = start-is s x (waiting_for (is_start_of x.worker) s.requests) refl
@@ -400,8 +403,8 @@ if_found-is s x change h (Some o) = h o
 noticed-is : (s : State) (x : Slot) (t : Told) → Change (at_rest s) (at_rest (noticed x t s))
 noticed-is s x told.Running = says_it_runs-is s x (is_starting (numbered s.objects x.worker))
 noticed-is s x (told.ProducerClosed id) = if_found-is s x _ (λ o. fallen-is [] (o.serial ∷ []) reason.ProducerClose s) (object_of x kind.Consumer id s)
-noticed-is s x (told.ProducerPaused id) = if_found-is s x _ (λ o. turned-is [] s o.serial (mark.ProducerPaused true)) (object_of x kind.Consumer id s)
-noticed-is s x (told.ProducerResumed id) = if_found-is s x _ (λ o. turned-is [] s o.serial (mark.ProducerPaused false)) (object_of x kind.Consumer id s)
+noticed-is s x (told.ProducerPaused id) = if_found-is s x _ (λ o. turned-is [] s o.serial (mark.ProducerPaused true) tt) (object_of x kind.Consumer id s)
+noticed-is s x (told.ProducerResumed id) = if_found-is s x _ (λ o. turned-is [] s o.serial (mark.ProducerPaused false) tt) (object_of x kind.Consumer id s)
 noticed-is s x (told.TupleLearnt id tuple) = if_found-is s x _ (λ o. one-noted s (note.Tuple o.name tuple) tt) (object_of x kind.Plain id s)
 noticed-is s x told.Other = stray-is s x
 
@@ -432,7 +435,7 @@ quiet-steps s m q change = record { start = at_rest s; entered = quietly m q; ch
 hear-is : (s : State) (m : Micro) → Steps s m (hear s m)
 hear-is s (Calls lane op) = record { start = entering s lane; entered = by_call lane op; change = called-is s lane op }
 hear-is s (Awaits lane name event count) = record { start = entering s lane; entered = by_await lane name event count; change = awaited-is s lane name event count }
-hear-is s (Starting worker) = quiet-steps s (Starting worker) tt (both (slots (with_up worker s.slots)) (notes (note.Up worker ∷ []) (tt, tt)))
+hear-is s (Starting worker) = quiet-steps s (Starting worker) tt (both (slots worker) (notes (note.Up worker ∷ []) (tt, tt)))
 hear-is s (Comes worker bytes) = quiet-steps s (Comes worker bytes) tt (streams (with_stream s.streams worker (stream_of s.streams worker ++ bytes)))
 hear-is s (Says worker said) = quiet-steps s (Says worker said) tt (heard_by-is s (up_slot s.slots worker) said)
 hear-is s (Breaks worker) = quiet-steps s (Breaks worker) tt still

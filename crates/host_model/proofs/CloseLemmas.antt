@@ -30,7 +30,7 @@ use Rattle.host_model.specs.Falls.{closed_notes}
 use Rattle.host_model.specs.Fit.{BuildsFit, one_if}
 use Rattle.host_model.specs.Laws.{AreOnOpen, EachClosesOnce, IsDueOnOpen, IsOnOpen, closes, is_open_at, is_shut, times_closed}
 use Rattle.host_model.specs.Run.{Journal, state_of}
-use Rattle.host_model.specs.Step.{due_by, due_of, first_worker, is_hopeless, new_worker, settled_note, start_request, turn_of}
+use Rattle.host_model.specs.Step.{Micro, due_by, due_of, first_worker, is_hopeless, new_worker, settled_note, start_request, step, turn_of}
 use Rattle.host_model.proofs.Along.{along}
 use Rattle.host_model.proofs.BuiltLemmas.{IsNew, request-stands}
 use Rattle.host_model.proofs.Changes.{Change, Going, IsPlain, at_rest, done, going, has_key, once-entered, step-is, still, both, notes, slots, streams, settles_call, awaits, asks_by, wants, asks_to_close, takes, takes_none, opens, settles_taken, marks, falls_with, settles_awaits}
@@ -44,12 +44,12 @@ use Rattle.host_model.proofs.FallLemmas.{AreDueOnOpen, FallsAreWhole, due-fallen
 
 -- ---- all of it, through each small change
 
-record Tidy (ns : List Note) (xs : List Object) (rs : List (Request Due)) : Type 0 where
-  once : (n : ℕ) → times_closed n ns ≡ count_by (is_closed_at n) xs
-  stands : AreOnOpen xs
-  due : AreDueOnOpen xs rs
+pub record Tidy (ns : List Note) (xs : List Object) (rs : List (Request Due)) : Type 0 where
+  pub once : (n : ℕ) → times_closed n ns ≡ count_by (is_closed_at n) xs
+  pub stands : AreOnOpen xs
+  pub due : AreDueOnOpen xs rs
 
-abbrev TidyOn : Going → Type 0
+abbrev pub TidyOn : Going → Type 0
 TidyOn g = Tidy g.state.notes g.state.objects (open_of g.taken g.state.requests)
 
 -- notes that tell of no close
@@ -168,7 +168,7 @@ module _ (b : BuildsFit) (whole : FallsAreWhole) where
   tidy-change still f t = t
   tidy-change (both x y) f t = tidy-change y (fits-change b x f) (tidy-change x f t)
   tidy-change (notes ns plain) f t = tidy-noted t ns (λ k. count-plain (closes k) (closes-plain k) ns plain)
-  tidy-change (slots xs) f t = t
+  tidy-change (slots worker) f t = t
   tidy-change (streams xs) f t = t
   tidy-change (settles_call call outcome names) f t = tidy-one t (note.Settled call outcome) (λ k. refl)
   tidy-change (awaits a) f t = t
@@ -203,8 +203,8 @@ module _ (b : BuildsFit) (whole : FallsAreWhole) where
       tidy-requests now (done r ∷ open_of taken s.requests) (λ object keeps e. absurd cc, now.due.1)
   tidy-change (settles_taken {calls} {taken} {s} r outcome names) f t =
       tidy-owner calls taken s r.owner outcome names (tidy-requests t (open_of taken s.requests) t.due.1)
-  tidy-change (marks {calls} {taken} {s} serial m) f t =
-      tidy-mapped t (λ o. cond (has_serial serial o) (marked m o) o) (λ o. chosen-alike (has_serial serial o) o (marked m o) (marked-alike m o))
+  tidy-change (marks {calls} {taken} {s} serial m keeps) f t =
+      tidy-mapped t (λ o. cond (has_serial serial o) (marked m o) o) (λ o. chosen-alike (has_serial serial o) o (marked m o) (marked-alike m keeps o))
       (λ o. chosen-closed (has_serial serial o) o (marked m o) (marked-closed m o))
   tidy-change (falls_with {calls} {s} roots why) f t = tidy-fallen s roots why f.ascending t
   tidy-change (settles_awaits {calls} {taken} {s}) f t =
@@ -213,17 +213,20 @@ module _ (b : BuildsFit) (whole : FallsAreWhole) where
       count-mapped (closes k) (λ e. false) settled_note (λ e. refl) (settled_by (times_noted s.notes) (is_hopeless s) s.awaits)
       ∙ count-none (λ e. false) (λ e. refl) (settled_by (times_noted s.notes) (is_hopeless s) s.awaits))
 
-  abbrev AreTidy : State → Type 0
+  abbrev pub AreTidy : State → Type 0
   AreTidy s = FitsOn (at_rest s) × TidyOn (at_rest s)
 
-  tidy : (j : Journal) → AreTidy (state_of j)
-  tidy j =
-      along AreTidy
-      (λ s m h.
+  pub tidy-step : (s : State) (m : Micro) → AreTidy s → AreTidy (step s m)
+  tidy-step s m h =
       let st = step-is s m in
       let fits = fits-entered s m st.start st.entered h.0 in
-      (fits-change b st.change fits, tidy-change st.change fits (once-entered TidyOn s (λ lane. h.1) h.1 m st.start st.entered))) (start j.seed) j.entries
-      (fits-start j.seed, record { once = λ k. refl; stands = tt; due = tt })
+      (fits-change b st.change fits, tidy-change st.change fits (once-entered TidyOn s (λ lane. h.1) h.1 m st.start st.entered))
+
+  pub tidy-start : (seed : ℕ) → AreTidy (start seed)
+  tidy-start seed = (fits-start seed, record { once = λ k. refl; stands = tt; due = tt })
+
+  tidy : (j : Journal) → AreTidy (state_of j)
+  tidy j = along AreTidy tidy-step (start j.seed) j.entries (tidy-start j.seed)
 
   pub on-open : (j : Journal) → AreOnOpen (state_of j).objects
   on-open j = (tidy j).1.stands

@@ -28,7 +28,7 @@ calls-change : {g h : Going} → Change g h → h.state.calls ≡ g.state.calls
 calls-change still = refl
 calls-change (both x y) = calls-change y ∙ calls-change x
 calls-change (notes ns plain) = refl
-calls-change (slots xs) = refl
+calls-change (slots worker) = refl
 calls-change (streams xs) = refl
 calls-change (settles_call call outcome names) = refl
 calls-change (awaits a) = refl
@@ -39,7 +39,7 @@ calls-change (takes key r e) = refl
 calls-change (takes_none key e) = refl
 calls-change (opens r object keeps o is same closed) = refl
 calls-change (settles_taken {calls} {taken} {s} r outcome names) = calls-owner s r.owner outcome names
-calls-change (marks serial m) = refl
+calls-change (marks serial m keeps) = refl
 calls-change (falls_with roots why) = refl
 calls-change settles_awaits = refl
 

@@ -34,7 +34,7 @@ or-more : (a b c : Bool) → (a || b) ≡ true → (b ≡ true → c ≡ true) �
 or-more true b c h more = refl
 or-more false b c h more = more h
 
-any-with_object : (q : Object → Bool) (o : Object) (xs : List Object) → list_any q xs ≡ true → list_any q (with_object o xs) ≡ true
+pub any-with_object : (q : Object → Bool) (o : Object) (xs : List Object) → list_any q xs ≡ true → list_any q (with_object o xs) ≡ true
 any-with_object q o [] h = absurd cc
 any-with_object q o (x ∷ xs) h = at (nat_lt o.serial.0 x.serial.0) (any-with_object q o xs)
   where
@@ -42,11 +42,19 @@ any-with_object q o (x ∷ xs) h = at (nat_lt o.serial.0 x.serial.0) (any-with_o
     at true later = or-later (q o) (list_any q (x ∷ xs)) h
     at false later = or-more (q x) (list_any q xs) (list_any q (with_object o xs)) h later
 
-any-mapped : (q : Object → Bool) (f : Object → Object) → ((x : Object) → q (f x) ≡ q x) → (xs : List Object) → list_any q (map f xs) ≡ list_any q xs
+pub own-with_object : (q : Object → Bool) (o : Object) → q o ≡ true → (xs : List Object) → list_any q (with_object o xs) ≡ true
+own-with_object q o own [] = ap (λ b. b || false) own
+own-with_object q o own (x ∷ xs) = at (nat_lt o.serial.0 x.serial.0) (own-with_object q o own xs)
+  where
+    at : (b : Bool) → list_any q (with_object o xs) ≡ true → list_any q (cond b (o ∷ x ∷ xs) (x ∷ with_object o xs)) ≡ true
+    at true later = ap (λ b. b || list_any q (x ∷ xs)) own
+    at false later = or-later (q x) (list_any q (with_object o xs)) later
+
+pub any-mapped : (q : Object → Bool) (f : Object → Object) → ((x : Object) → q (f x) ≡ q x) → (xs : List Object) → list_any q (map f xs) ≡ list_any q xs
 any-mapped q f same [] = refl
 any-mapped q f same (x ∷ xs) = ap (λ b. b || list_any q (map f xs)) (same x) ∙ ap (λ b. q x || b) (any-mapped q f same xs)
 
-serial-from : (a b : Serial) → same_serial a b ≡ true → a ≡ b
+pub serial-from : (a b : Serial) → same_serial a b ≡ true → a ≡ b
 serial-from a b h = let e = eqb-true a.0 b.0 h in λ i. record { 0 = e i }
 
 serial-to : (a b : Serial) → a ≡ b → same_serial a b ≡ true
@@ -110,12 +118,12 @@ one-behind x xs y low h =
     let apart : has_serial y.serial x ≡ false = ne_eqb x.serial.0 y.serial.0 (λ e. omega (arith, e, low)) in
     ap (λ b. cond b (Some x) (numbered xs y.serial)) apart ∙ h
 
-all-both : {X : Type 0} (P Q R : X → Type 0) (xs : List X) → ((x : X) → P x → Q x → R x) → AllByRecursion P xs → AllByRecursion Q xs → AllByRecursion R xs
+pub all-both : {X : Type 0} (P Q R : X → Type 0) (xs : List X) → ((x : X) → P x → Q x → R x) → AllByRecursion P xs → AllByRecursion Q xs → AllByRecursion R xs
 all-both P Q R [] both_of p q = tt
 all-both P Q R (x ∷ xs) both_of p q = (both_of x p.0 q.0, all-both P Q R xs both_of p.1 q.1)
 
 -- each of a list in order is the one of its serial
-all-numbered : (xs : List Object) → AreInOrder xs → AllByRecursion (λ (y : Object). numbered xs y.serial ≡ Some y) xs
+pub all-numbered : (xs : List Object) → AreInOrder xs → AllByRecursion (λ (y : Object). numbered xs y.serial ≡ Some y) xs
 all-numbered [] h = tt
 all-numbered (x ∷ xs) h = (
   ap (λ b. cond b (Some x) (numbered xs x.serial)) (serial-to x.serial x.serial refl),
@@ -123,7 +131,7 @@ all-numbered (x ∷ xs) h = (
       (one-behind x xs) h.0 (all-numbered xs h.1),
 )
 
-numbered-mapped : (g : Object → Object) → ((x : Object) → (g x).serial ≡ x.serial) → (xs : List Object) (serial : Serial) → numbered (map g xs) serial ≡ option_map g (numbered xs serial)
+pub numbered-mapped : (g : Object → Object) → ((x : Object) → (g x).serial ≡ x.serial) → (xs : List Object) (serial : Serial) → numbered (map g xs) serial ≡ option_map g (numbered xs serial)
 numbered-mapped g same [] serial = refl
 numbered-mapped g same (x ∷ xs) serial =
     ap (λ s. cond (same_serial s serial) (Some (g x)) (numbered (map g xs) serial)) (same x) ∙ at (has_serial serial x) (numbered-mapped g same xs serial)
@@ -142,7 +150,7 @@ module _ (p : Object → Bool) (r : Object → Reason) (opened_before : (x : Obj
   fallen x = cond (p x) (closed_by (r x) x) x
 
   fallen-alike : (x : Object) → IsAlike x (fallen x)
-  fallen-alike x = chosen-alike (p x) x (closed_by (r x) x) (record { serial = refl; id = refl; kind = refl; parent = refl; name = refl })
+  fallen-alike x = chosen-alike (p x) x (closed_by (r x) x) (record { serial = refl; id = refl; kind = refl; parent = refl; name = refl; far = refl })
 
   -- ---- the notes
 
@@ -280,16 +288,17 @@ module _ (whole : FallsAreWhole) (xs : List Object) (roots : List Serial) (why :
           let on : x.parent ≡ Some parent = sym (fallen-alike falls_here why_of (λ y t. whole.opened xs roots y t) x).parent ∙ is in
           any-kept falls_here why_of (λ y t. whole.opened xs roots y t) parent xs (k now.1 parent on) (above-stays x here now.1 now.0 parent on)
 
+  -- an open object stays open that isn't among the fallen
+  pub there-fallen : (serial : Serial) → is_open_at xs serial ≡ true → list_any (λ s. same_serial serial s) (falls xs roots) ≡ false → is_open_at (map after_fall xs) serial ≡ true
+  there-fallen serial h apart =
+      any-kept falls_here why_of (λ y t. whole.opened xs roots y t) serial xs h (none-fell falls_here why_of (λ y t. whole.opened xs roots y t) serial xs apart)
+
   pub due-fallen : (rs : List Issued) → AreDueOnOpen xs (waiting rs)
       → AreDueOnOpen (map after_fall xs) (map done (filter (is_under (falls xs roots)) (waiting rs)) ++ waiting (settled_where (is_under (falls xs roots)) rs))
   due-fallen rs h =
       all-fallen (IsDueOnOpen xs) (IsDueOnOpen (map after_fall xs)) rs (is_under (falls xs roots))
       (λ r k apart object keeps is.
-      let at = k object keeps is in (
-        at.0,
-        at.1,
-        any-kept falls_here why_of (λ y t. whole.opened xs roots y t) r.under xs at.2 (none-fell falls_here why_of (λ y t. whole.opened xs roots y t) r.under xs apart),
-      ))
+      let at = k object keeps is in (at.0, at.1, there-fallen r.under at.2 apart))
       (λ r object keeps is. absurd cc) h
 
   pub once-fallen : AreInOrder xs → (n : ℕ) (ns : List Note) → times_closed n ns ≡ count_by (is_closed_at n) xs

@@ -40,10 +40,10 @@ use Rattle.host_model.proofs.Along.{along}
 -- ---- serials
 
 -- how many may have a serial
-abbrev most : ℕ → ℕ → ℕ
+abbrev pub most : ℕ → ℕ → ℕ
 most n next = one_if (nat_le 1 n && nat_lt n next)
 
-drawn-more : (n next c : ℕ) → 1 ≤ next → c ≤ most n next → c + one_if (next == n) ≤ most n (next + 1)
+pub drawn-more : (n next c : ℕ) → 1 ≤ next → c ≤ most n next → c + one_if (next == n) ≤ most n (next + 1)
 drawn-more n next c h k = grind (arith, nat_tests)
 
 most-one : (n next : ℕ) → most n next ≤ 1
@@ -120,17 +120,26 @@ fits-issued {os} {ws} {t} {next} h r after (Some paused) None keeps is drawn own
 fits-issued {os} {ws} {t} {next} h r after None None keeps is drawn own few =
     subst (Fits os (ws ++ r ∷ []) t) (sym drawn) (fits-more h r (λ n. ap (opens_serial n) is) (subst (IsFitDue next.seed) (sym is) tt))
 
+-- an object that was due has the serial that the request is to make
+due-serial : (r : Request Due) (object : Object) (keeps : Keep) (o : Object) → r.due ≡ due.Opens object keeps → IsAlike object o
+    → (n : ℕ) → one_if (makes_serial n r) ≡ one_if (has_serial n o)
+due-serial r object keeps o is same n = ap (λ d. one_if (opens_serial n d)) is ∙ ap (λ (s : Serial). one_if (s.0 == n)) (sym same.serial)
+
+-- no object has it yet
+pub due-new : {os : List Object} {ws : List (Request Due)} {t : Tables} {next : Draws} (r : Request Due) (object : Object) (keeps : Keep) (o : Object) → Fits os (r ∷ ws) t next
+    → r.due ≡ due.Opens object keeps → IsAlike object o → count_by (has_serial o.serial.0) os ≡ 0
+due-new {os} {ws} {t} {next} r object keeps o h is same =
+    let n = o.serial.0 in
+    let one : one_if (has_serial n o) ≡ 1 = ap one_if (same-itself n) in
+    omega (arith, one, due-serial r object keeps o is same n, most-one n next.serial, h.drawn_once n, count-cons (makes_serial n) r ws)
+
 -- an object that was due opens
 fits-opened : {os : List Object} {ws : List (Request Due)} {t : Tables} {next : Draws} (r : Request Due) (object : Object) (keeps : Keep) (o : Object) → Fits os (r ∷ ws) t next
     → r.due ≡ due.Opens object keeps → IsAlike object o → Fits (with_object o os) (done r ∷ ws) (with_kept o.serial keeps t) next
 fits-opened {os} {ws} {t} {next} r object keeps o h is same =
     let due : IsFitDue next.seed (due.Opens object keeps) = subst (IsFitDue next.seed) is h.due.0 in
-    let counted : (n : ℕ) → one_if (makes_serial n r) ≡ one_if (has_serial n o) =
-    λ n. ap (λ d. one_if (opens_serial n d)) is ∙ ap (λ (s : Serial). one_if (s.0 == n)) (sym same.serial) in
-    let fresh : count_by (has_serial o.serial.0) os ≡ 0 =
-    (let n = o.serial.0 in
-    let one : one_if (has_serial n o) ≡ 1 = ap one_if (same-itself n) in
-    omega (arith, one, counted n, most-one n next.serial, h.drawn_once n, count-cons (makes_serial n) r ws)) in
+    let counted = due-serial r object keeps o is same in
+    let fresh = due-new r object keeps o h is same in
     record {
       from_one = h.from_one;
       drawn_once = λ n.
@@ -159,11 +168,15 @@ fits-without : {os : List Object} {ws : List (Request Due)} {t : Tables} {next :
 fits-without {os} {ws} {t} {next} h serials =
     record { from_one = h.from_one; drawn_once = h.drawn_once; ascending = h.ascending; own_ids = h.own_ids; due = h.due; few = few-all_without serials t h.few }
 
+-- no object has the serial that is drawn next
+pub next-new : {os : List Object} {ws : List (Request Due)} {t : Tables} {next : Draws} → Fits os ws t next → count_by (has_serial next.serial) os ≡ 0
+next-new {os} {ws} {t} {next} h = omega (arith, most-none next.serial, h.drawn_once next.serial)
+
 -- a Worker comes
 fits-worker : {os : List Object} {ws : List (Request Due)} {t : Tables} {next : Draws} → Fits os ws t next → (o : Object) → o.serial.0 ≡ next.serial → HasOwnId next.seed o
     → Fits (with_object o os) ws t (record next { serial = next.serial + 1 })
 fits-worker {os} {ws} {t} {next} h o is own =
-    let none : count_by (has_serial next.serial) os ≡ 0 = omega (arith, most-none next.serial, h.drawn_once next.serial) in
+    let none = next-new h in
     record {
       from_one = omega (arith, h.from_one);
       drawn_once = λ n.
@@ -242,7 +255,7 @@ pub fits-change : BuildsFit → {g h : Going} → Change g h → FitsOn g → Fi
 fits-change b still f = f
 fits-change b (both x y) f = fits-change b y (fits-change b x f)
 fits-change b (notes ns plain) f = f
-fits-change b (slots xs) f = f
+fits-change b (slots worker) f = f
 fits-change b (streams xs) f = f
 fits-change b (settles_call call outcome names) f = f
 fits-change b (awaits a) f = f
@@ -267,8 +280,8 @@ fits-change b (opens r object keeps o is same closed) f = fits-opened r object k
 fits-change b (settles_taken {calls} {taken} {s} r outcome names) f =
     fits-owner calls taken s r.owner outcome names
     (fits-fewer f (open_of taken s.requests) (λ n. omega (arith, count-cons (makes_serial n) r (open_of taken s.requests))) f.due.1)
-fits-change b (marks {calls} {taken} {s} serial m) f =
-    fits-mapped f (λ o. cond (objects.has_serial serial o) (marked m o) o) (λ o. chosen-alike (objects.has_serial serial o) o (marked m o) (marked-alike m o))
+fits-change b (marks {calls} {taken} {s} serial m keeps) f =
+    fits-mapped f (λ o. cond (objects.has_serial serial o) (marked m o) o) (λ o. chosen-alike (objects.has_serial serial o) o (marked m o) (marked-alike m keeps o))
 fits-change b (falls_with {calls} {s} roots why) f =
     let down : List Serial = falls s.objects roots in
     fits-without
@@ -323,7 +336,7 @@ draws-change : BuildsFit → {g h : Going} → Change g h → FitsOn g → Draws
 draws-change b (still {g}) f = draws-none g.state.next (length g.calls) (length g.state.calls)
 draws-change b (both {g} {h} {i} x y) f = draws-then g h i (draws-change b x f) (draws-change b y (fits-change b x f))
 draws-change b (notes {calls} {taken} {s} ns plain) f = draws-none s.next (length calls) (length s.calls)
-draws-change b (slots {calls} {taken} {s} xs) f = draws-none s.next (length calls) (length s.calls)
+draws-change b (slots {calls} {taken} {s} worker) f = draws-none s.next (length calls) (length s.calls)
 draws-change b (streams {calls} {taken} {s} xs) f = draws-none s.next (length calls) (length s.calls)
 draws-change b (settles_call {calls} {taken} {s} call outcome names) f = draws-settled s.next (length calls) (length s.calls)
 draws-change b (awaits {calls} {taken} {s} a) f = draws-settled s.next (length calls) (length s.calls)
@@ -335,7 +348,7 @@ draws-change b (takes {calls} {taken} {s} key r e) f = draws-none s.next (length
 draws-change b (takes_none {calls} {taken} {s} key e) f = draws-none s.next (length calls) (length s.calls)
 draws-change b (opens {calls} {taken} {s} r object keeps o is same closed) f = draws-none s.next (length calls) (length s.calls)
 draws-change b (settles_taken {calls} {taken} {s} r outcome names) f = draws-owner calls taken s r r.owner outcome names
-draws-change b (marks {calls} {taken} {s} serial m) f = draws-none s.next (length calls) (length s.calls)
+draws-change b (marks {calls} {taken} {s} serial m keeps) f = draws-none s.next (length calls) (length s.calls)
 draws-change b (falls_with {calls} {s} roots why) f = draws-none s.next (length calls) (length s.calls)
 draws-change b (settles_awaits {calls} {taken} {s}) f = draws-none s.next (length calls) (length s.calls)
 
@@ -344,7 +357,7 @@ draws-change b (settles_awaits {calls} {taken} {s}) f = draws-none s.next (lengt
 pub fits-entered : (s : State) (m : Micro) (g : Going) → Entered s m g → FitsOn (at_rest s) → FitsOn g
 fits-entered s m g e f = once-entered FitsOn s (λ lane. f) f m g e
 
-fits-step : BuildsFit → (s : State) (m : Micro) → FitsOn (at_rest s) → FitsOn (at_rest (step s m))
+pub fits-step : BuildsFit → (s : State) (m : Micro) → FitsOn (at_rest s) → FitsOn (at_rest (step s m))
 fits-step b s m f = let st = step-is s m in fits-change b st.change (fits-entered s m st.start st.entered f)
 
 draws-step : BuildsFit → (s : State) (m : Micro) → FitsOn (at_rest s) → DrawsOn (at_rest s) (at_rest (step s m))

@@ -53,7 +53,7 @@ pub numbered-change : {g h : Going} → Change g h → NumberedOn g → Numbered
 numbered-change still n = n
 numbered-change (both x y) n = numbered-change y (numbered-change x n)
 numbered-change (notes ns plain) n = n
-numbered-change (slots xs) n = n
+numbered-change (slots worker) n = n
 numbered-change (streams xs) n = n
 numbered-change (settles_call call outcome names) n = n
 numbered-change (awaits a) n = n
@@ -64,14 +64,14 @@ numbered-change (takes {calls} {taken} {s} key r e) n = numbered-settled (has_ke
 numbered-change (takes_none {calls} {taken} {s} key e) n = numbered-settled (has_key key) s.requests n
 numbered-change (opens r object keeps o is same closed) n = n
 numbered-change (settles_taken {calls} {taken} {s} r outcome names) n = numbered-owner s r.owner outcome names n
-numbered-change (marks serial m) n = n
+numbered-change (marks serial m keeps) n = n
 numbered-change (falls_with {calls} {s} roots why) n = numbered-settled (is_under (falls s.objects roots)) s.requests n
 numbered-change settles_awaits n = n
 
 pub numbered-entered : (s : State) (m : Micro) (g : Going) → Entered s m g → NumberedOn (at_rest s) → NumberedOn g
 numbered-entered s m g e n = once-entered NumberedOn s (λ lane. n) n m g e
 
-numbered-step : (s : State) (m : Micro) → NumberedOn (at_rest s) → NumberedOn (at_rest (step s m))
+pub numbered-step : (s : State) (m : Micro) → NumberedOn (at_rest s) → NumberedOn (at_rest (step s m))
 numbered-step s m n = let st = step-is s m in numbered-change st.change (numbered-entered s m st.start st.entered n)
 
 pub numbered : (j : Journal) → AreNumbered (state_of j).requests

@@ -1,5 +1,6 @@
 -- Objects that come, and objects that are changed but for what tells them apart.
 use Rattle.std.proofs.Common.{◌≡◌, ◌≤◌, ◌<◌, ℕ, ◌+◌, List, [], ◌∷◌, map, Bool, true, false, ◌&&◌, ◌==◌, nat_lt, cond, refl, sym, ap, ◌∙◌, subst, arith, count_by}
+use Rattle.std.specs.Bool.{⊤}
 use Rattle.std.specs.List.{AllByRecursion}
 use Rattle.std.proofs.lemmas.Bool.{eqb-false, ltb-true, ltb-false}
 use Rattle.ms_base.specs.Id.{id_bytes}
@@ -57,16 +58,17 @@ in_order-with_object o (x ∷ xs) h none = at (nat_lt o.serial.0 x.serial.0) ref
 
 -- ---- objects that are changed
 
--- the same in what tells objects apart and what they stand on
+-- the same in what tells objects apart, what they stand on and what they lead to
 pub record IsAlike (a b : Object) : Type 0 where
   pub serial : b.serial ≡ a.serial
   pub id : b.id ≡ a.id
   pub kind : b.kind ≡ a.kind
   pub parent : b.parent ≡ a.parent
   pub name : b.name ≡ a.name
+  pub far : b.far ≡ a.far
 
 pub alike-itself : (o : Object) → IsAlike o o
-alike-itself o = record { serial = refl; id = refl; kind = refl; parent = refl; name = refl }
+alike-itself o = record { serial = refl; id = refl; kind = refl; parent = refl; name = refl; far = refl }
 
 pub own_id-alike : (seed : ℕ) (a b : Object) → IsAlike a b → HasOwnId seed a → HasOwnId seed b
 own_id-alike seed a b same h =
@@ -88,11 +90,16 @@ module _ (f : Object → Object) (same : (o : Object) → IsAlike o (f o)) where
   pub serial-mapped : (n : ℕ) (o : Object) → has_serial n (f o) ≡ has_serial n o
   serial-mapped n o = ap (λ (s : Serial). s.0 == n) (same o).serial
 
-pub marked-alike : (mark : Mark) (o : Object) → IsAlike o (marked mark o)
-marked-alike Running o = record { serial = refl; id = refl; kind = refl; parent = refl; name = refl }
-marked-alike (Paused b) o = record { serial = refl; id = refl; kind = refl; parent = refl; name = refl }
-marked-alike (ProducerPaused b) o = record { serial = refl; id = refl; kind = refl; parent = refl; name = refl }
-marked-alike (Far s) o = record { serial = refl; id = refl; kind = refl; parent = refl; name = refl }
+-- a mark that sets no far end
+abbrev pub KeepsLinks : Mark → Type 0
+KeepsLinks (Far serial) = ⊥
+KeepsLinks other = ⊤
+
+pub marked-alike : (mark : Mark) → KeepsLinks mark → (o : Object) → IsAlike o (marked mark o)
+marked-alike Running keeps o = record { serial = refl; id = refl; kind = refl; parent = refl; name = refl; far = refl }
+marked-alike (Paused b) keeps o = record { serial = refl; id = refl; kind = refl; parent = refl; name = refl; far = refl }
+marked-alike (ProducerPaused b) keeps o = record { serial = refl; id = refl; kind = refl; parent = refl; name = refl; far = refl }
+marked-alike (Far s) keeps o = absurd keeps
 
 -- changed where a test says so
 pub chosen-alike : (b : Bool) (o p : Object) → IsAlike o p → IsAlike o (cond b p o)
@@ -102,4 +109,4 @@ chosen-alike false o p h = alike-itself o
 pub closed-alike : (objects : List Object) (fallen roots : List Serial) (reason : Reason) (o : Object) → IsAlike o (closed_if objects fallen roots reason o)
 closed-alike objects fallen roots reason o =
     chosen-alike (is_open o && is_among fallen o.serial) o (closed_by (reason_of objects fallen roots reason o) o)
-    (record { serial = refl; id = refl; kind = refl; parent = refl; name = refl })
+    (record { serial = refl; id = refl; kind = refl; parent = refl; name = refl; far = refl })

@@ -146,7 +146,7 @@ written-change : {g h : Going} → Change g h → WrittenOn g → WrittenOn h
 written-change still h = h
 written-change (both x y) h = written-change y (written-change x h)
 written-change (notes ns plain) h = λ w. written-noted (h w) ns (plain-none w ns plain)
-written-change (slots xs) h = h
+written-change (slots worker) h = h
 written-change (streams xs) h = h
 written-change (settles_call call outcome names) h = λ w. written-noted (h w) (note.Settled call outcome ∷ []) refl
 written-change (awaits a) h = h
@@ -163,7 +163,7 @@ written-change (takes key r e) h = λ w. written-settled (h w) (has_key key)
 written-change (takes_none key e) h = λ w. written-settled (h w) (has_key key)
 written-change (opens r object keeps o is same closed) h = λ w. written-noted (h w) (opened o ∷ []) refl
 written-change (settles_taken {calls} {taken} {s} r outcome names) h = written-owner s r.owner outcome names h
-written-change (marks serial m) h = h
+written-change (marks serial m keeps) h = h
 written-change (falls_with {calls} {s} roots why) h =
     λ w.
     let down : List Serial = falls s.objects roots in

@@ -107,7 +107,7 @@ one-at_most : (b : Bool) → one_if b ≤ 1
 one-at_most true = omega arith
 one-at_most false = omega arith
 
-keys-once : (rs : List Issued) (next : Draws) → AreNumbered rs → EachStartsOnce rs next → (key : Key) → count_by (has_key key) (waiting rs) ≤ 1
+pub keys-once : (rs : List Issued) (next : Draws) → AreNumbered rs → EachStartsOnce rs next → (key : Key) → count_by (has_key key) (waiting rs) ≤ 1
 keys-once rs next h starts (reply_to worker id) =
     omega (
       arith,
@@ -160,6 +160,13 @@ serial-rises : (makes : Option Object) (next after : Draws) → DrawsFor makes n
 serial-rises None next after drawn = subst (λ d. next.serial ≤ d.serial) (sym drawn) (omega arith)
 serial-rises (Some o) next after drawn = omega (arith, drawn.serial)
 
+pub starts-start : (seed : ℕ) → StartsOn (at_rest (start seed))
+starts-start seed = λ n. at_least (nat_lt n 1)
+  where
+    at_least : (b : Bool) → 0 ≤ one_if b
+    at_least true = omega arith
+    at_least false = omega arith
+
 starts-owner : (s : State) (o : Owner) (outcome : Outcome) (names : List (List ℕ)) → EachStartsOnce s.requests s.next
     → EachStartsOnce (owner_settled o outcome names s).requests (owner_settled o outcome names s).next
 starts-owner s (owner.Call call) outcome names h = h
@@ -171,7 +178,7 @@ pub starts-change : BuildsFit → {g h : Going} → Change g h → FitsOn g → 
 starts-change b still f st = st
 starts-change b (both x y) f st = starts-change b y (fits-change b x f) (starts-change b x f st)
 starts-change b (notes ns plain) f st = st
-starts-change b (slots xs) f st = st
+starts-change b (slots worker) f st = st
 starts-change b (streams xs) f st = st
 starts-change b (settles_call call outcome names) f st = st
 starts-change b (awaits a) f st = st
@@ -185,9 +192,15 @@ starts-change b (takes {calls} {taken} {s} key r e) f st = starts-settled (has_k
 starts-change b (takes_none {calls} {taken} {s} key e) f st = starts-settled (has_key key) s.requests s.next st
 starts-change b (opens r object keeps o is same closed) f st = st
 starts-change b (settles_taken {calls} {taken} {s} r outcome names) f st = starts-owner s r.owner outcome names st
-starts-change b (marks serial m) f st = st
+starts-change b (marks serial m keeps) f st = st
 starts-change b (falls_with {calls} {s} roots why) f st = starts-settled (is_under (falls s.objects roots)) s.requests s.next st
 starts-change b settles_awaits f st = st
+
+pub starts-step : BuildsFit → (s : State) (m : Micro) → FitsOn (at_rest s) → StartsOn (at_rest s) → StartsOn (at_rest (step s m))
+starts-step b s m f st =
+    let steps_by = step-is s m in
+    starts-change b steps_by.change (fits-entered s m steps_by.start steps_by.entered f)
+    (once-entered StartsOn s (λ lane. st) st m steps_by.start steps_by.entered)
 
 -- ---- notes
 
@@ -297,7 +310,7 @@ balanced-change b still f n st h = h
 balanced-change b (both x y) f n st h = balanced-change b y (fits-change b x f) (numbered-change x n) (starts-change b x f st) (balanced-change b x f n st h)
 balanced-change b (notes {calls} {taken} {s} ns plain) f n st h =
     λ key. omega (arith, h key, count-append (settles key) s.notes ns, count-plain (settles key) (settles-plain key) ns plain)
-balanced-change b (slots xs) f n st h = h
+balanced-change b (slots worker) f n st h = h
 balanced-change b (streams xs) f n st h = h
 balanced-change b (settles_call {calls} {taken} {s} call outcome names) f n st h =
     λ key. omega (arith, h key, count-cons (λ (c : CallKey). same_call c key) call calls, noted-one key s.notes (note.Settled call outcome))
@@ -351,7 +364,7 @@ balanced-change b (opens {calls} {taken} {s} r object keeps o is same closed) f 
       count-cons (is_of key) (done r) (open_of taken s.requests),
     )
 balanced-change b (settles_taken {calls} {taken} {s} r outcome names) f n st h = balanced-owner calls taken s r r.owner outcome names refl h
-balanced-change b (marks serial m) f n st h = h
+balanced-change b (marks serial m keeps) f n st h = h
 balanced-change b (falls_with {calls} {s} roots why) f n st h =
     λ key.
     let down : List Serial = falls s.objects roots in
@@ -390,7 +403,7 @@ pub placed-change : {g h : Going} → Change g h → ArePlaced g.state.calls →
 placed-change still h = h
 placed-change (both x y) h = placed-change y (placed-change x h)
 placed-change (notes ns plain) h = h
-placed-change (slots xs) h = h
+placed-change (slots worker) h = h
 placed-change (streams xs) h = h
 placed-change (settles_call call outcome names) h = h
 placed-change (awaits a) h = h
@@ -401,7 +414,7 @@ placed-change (takes key r e) h = h
 placed-change (takes_none key e) h = h
 placed-change (opens r object keeps o is same closed) h = h
 placed-change (settles_taken {calls} {taken} {s} r outcome names) h = placed-owner s r.owner outcome names h
-placed-change (marks serial m) h = h
+placed-change (marks serial m keeps) h = h
 placed-change (falls_with roots why) h = h
 placed-change settles_awaits h = h
 
@@ -439,11 +452,7 @@ settled-step b s m h =
     (fits-change b st.change fits, numbered-change st.change numbers, starts-change b st.change fits starts, balanced-change b st.change fits numbers starts balance)
 
 settled-start : (seed : ℕ) → AreSettled (start seed)
-settled-start seed = (fits-start seed, λ w. refl, λ n. one-at_least (nat_lt n 1), λ key. refl)
-  where
-    one-at_least : (b : Bool) → 0 ≤ one_if b
-    one-at_least true = omega arith
-    one-at_least false = omega arith
+settled-start seed = (fits-start seed, λ w. refl, starts-start seed, λ key. refl)
 
 pub waits-or-settled : BuildsFit → (j : Journal) → EachWaitsOrSettled (state_of j)
 waits-or-settled b j =

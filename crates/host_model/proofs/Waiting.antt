@@ -36,7 +36,7 @@ waiting-settled test (x ∷ xs) = at x.settled (waiting-settled test xs)
 -- ---- what holds of each of those in hand and of those that wait
 
 -- those that don't pass a test
-all-others : {X : Type 0} (P Q : X → Type 0) (test : X → Bool) → ((x : X) → P x → test x ≡ false → Q x) → (xs : List X) → AllByRecursion P xs
+pub all-others : {X : Type 0} (P Q : X → Type 0) (test : X → Bool) → ((x : X) → P x → test x ≡ false → Q x) → (xs : List X) → AllByRecursion P xs
     → AllByRecursion Q (filter (λ x. not (test x)) xs)
 all-others P Q test more [] h = tt
 all-others P Q test more (x ∷ xs) h = at (test x) refl (all-others P Q test more xs h.1)

@@ -1,9 +1,13 @@
 pub mod Answer
 pub mod Changes
+pub mod Drawn
 pub mod Falls
 pub mod Fit
 pub mod Laws
 pub mod Rows
 pub mod Run
+pub mod Sound
+pub mod Standing
 pub mod State
 pub mod Step
+pub mod Workers

@@ -19,7 +19,7 @@ use Rattle.ortc_map.specs.Supported.{supported_codecs}
 use Rattle.rtp_params.specs.Codecs.{codec_in, mime_type_in}
 use Rattle.rtp_params.specs.Reading.{number_of}
 use Rattle.rtp_params.specs.Whole.{caps_in}
-use Rattle.host_model.specs.Run.{Journal, transcript_of}
+use Rattle.host_model.specs.Run.{transcript_of}
 
 abbrev pub first : WorkerKey
 first = record { slot = 1; generation = 1 }

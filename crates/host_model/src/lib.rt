@@ -2,8 +2,15 @@
 //! here are the definitions that it meets, and the laws that hold of every journal.
 #![tactic(auto)]
 
+mod drawn;
 mod due;
 mod laws;
+mod standing;
 
+pub use drawn::{serials_are_drawn_once, ssrcs_are_drawn_once};
 pub use due::Due;
-pub use laws::{calls_settle_once, ids_are_numbered, objects_close_once, what_a_host_knows_fits};
+pub use laws::{
+    calls_settle_once, hosts_are_sound, ids_are_numbered, notes_stand, objects_close_once,
+    slots_have_workers, what_a_host_knows_fits,
+};
+pub use standing::{objects_open_once, requests_wait_under_open_objects, running_workers_are_up};
