@@ -1,0 +1,13 @@
+pub mod Awaiting
+pub mod Closing
+pub mod Counts
+pub mod Expecting
+pub mod Making
+pub mod Mapped
+pub mod Opening
+pub mod Owning
+pub mod Parts
+pub mod Settling
+pub mod ShownLemmas
+pub mod Starting
+pub mod Watching
