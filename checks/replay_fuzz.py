@@ -19,12 +19,23 @@ from model import replay
 
 SHOWN = 5
 SECONDS = 60
-TO_BE_MET = (
-    "bad utf8, bad head, bad cut, bad op, bad words, bad number, bad name, bad event, bad json, "
-    "bad hex, open worker, open router, spawn, up, running, sent, late, stray, unexpected, log, "
-    "settled ok, settled nametaken, settled noname, settled wrongkind, settled invalidstate, "
-    "settled typeerror, settled worker TypeError, settled worker Error"
-).split(", ")
+OBJECTS = "worker router plain pipe direct producer consumer"
+REASONS = "close producerclose workerclose routerclose transportclose"
+OUTCOMES = "ok yes no nametaken noname wrongkind invalidstate toobig closed missed"
+TYPE_ERRORS = "form duplicate_type duplicate_id ssrc apt many kind slots packet"
+TO_BE_MET = [
+    *(f"bad {code}" for code in "utf8 head cut op words number name event json hex".split()),
+    *(f"open {kind}" for kind in OBJECTS.split()),
+    *(f"closed {reason}" for reason in REASONS.split()),
+    *("spawn", "up", "running", "sent request", "sent rtp", "paused", "resumed", "tuple", "rtp"),
+    *("late", "stray", "unexpected", "log"),
+    *(f"settled {outcome}" for outcome in OUTCOMES.split()),
+    *(f"settled typeerror {code}" for code in TYPE_ERRORS.split()),
+    *(f"settled unsupported {code}" for code in "codec codecs types mux simulcast".split()),
+    *(f"settled worker {error}" for error in "TypeError Error BadData".split()),
+]
+# The outcomes that have a second word which tells more of the kind.
+TELLING = ("typeerror", "unsupported", "worker")
 
 
 def run(program, text):
@@ -73,13 +84,15 @@ def show(program, name, text):
 def kinds_of(answer):
     """What an answer shows: the code of a bad text, or the kinds of its notes."""
     for line in answer.decode("utf-8").split("\n")[:-1]:
-        words = line.split(" ")
-        if words[0] == "bad":
-            yield f"bad {words[2]}"
-        elif words[0] == "open":
-            yield f"open {words[2]}"
+        words = line.split(" ", 5)
+        if words[0] in ("bad", "open"):
+            yield f"{words[0]} {words[2]}"
+        elif words[0] == "closed":
+            yield f"closed {words[3]}"
+        elif words[0] == "sent":
+            yield "sent rtp" if words[3] == "rtp" else "sent request"
         elif words[0] == "settled":
-            yield "settled " + " ".join(words[3 : 5 if words[3] == "worker" else 4])
+            yield "settled " + " ".join(words[3 : 5 if words[3] in TELLING else 4])
         else:
             yield words[0]
 
@@ -94,8 +107,9 @@ def main():
     tried = different = 0
     for name, text in chain(cases.edges(), cases.at_random(words.seed, words.cases)):
         tried += 1
-        met.update(set(kinds_of(replay(text)[1])))
-        if differs(words.program, text):
+        wanted = replay(text)
+        met.update(set(kinds_of(wanted[1])))
+        if run(words.program, text) != (*wanted, b""):
             different += 1
             if different <= SHOWN:
                 show(words.program, name, text)

@@ -2,7 +2,7 @@
 
 from random import Random
 
-from cases import journal_texts, json_texts, limits
+from cases import calls, journal_texts, json_texts, limits, lists
 from cases.faults import broken
 from cases.messages import many_payloads
 from cases.stories import Story
@@ -11,7 +11,9 @@ from cases.writing import text_of
 EDGES = (
     *(journal_texts.ends, journal_texts.heads, journal_texts.lines, journal_texts.words),
     *(json_texts.values, json_texts.members, journal_texts.not_utf8),
-    *(limits.slots, limits.payloads, limits.packets),
+    *(limits.slots, limits.payloads, limits.packets, limits.calls),
+    *(calls.given, calls.contents, calls.notices, calls.states, calls.names, calls.needs),
+    *(lists.routers, lists.producers, lists.profiles, lists.capabilities),
 )
 
 
@@ -29,6 +31,6 @@ def at_random(seed, count):
 
 def one_at_random(random):
     data = many_payloads(random) if random.random() < 0.05 else text_of(Story(random).tell())
-    while random.random() < 0.3:
+    while random.random() < 0.2:
         data = broken(random, data)
     return data

@@ -9,7 +9,8 @@ HEADS = (
     *("journal 1 -7", "journal 1 7.0", "", "script 1 7", "\ufeffjournal 1 7", "journal 1 ٧"),
 )
 
-# Lines of no form that is built, or with two faults, of which the first is told.
+# Lines of no form that is read, with two faults, of which the first is told, or of calls for what
+# isn't there.
 OTHER_LINES = (
     *("stop", "stop x", "gone 1 1 end", "await 1 w running 1", "call 1 plain t r {}"),
     *("call 1 direct d r", "call 1 close w", "script 1 7", "lane", "journal 1 7"),

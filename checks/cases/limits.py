@@ -1,9 +1,14 @@
-"""Named cases at the limits of slots, payloads and log texts, and of the ids that packets name."""
+"""Named cases at the limits of slots, payloads, packets and log texts, and of the ids that packets
+name.
+"""
 
+from cases import tree
 from cases.writing import OPTIONS, chunk, frame, heard, journal, up
 
 SLOTS = 64
 PAYLOAD_LIMIT = 4_194_304
+# The bytes of the request below with an empty cname.
+WITHOUT_CNAME = 661
 SOME_ID = "00000000-0000-4007-8000-00000000000a"
 
 
@@ -42,3 +47,19 @@ def packets():
     for name, text in forms.items():
         yield f"packet: {name}", heard(b"R" + text.encode())
         yield f"small letter: {name}", heard(b"r" + text.encode())
+
+
+def calls():
+    """Packets and requests that are too big by a byte, and such as aren't."""
+    for length in (65_535, 65_536):
+        yield f"a packet of {length} bytes", journal(*tree.tree(), f"call 2 send a {'00' * length}")
+    room = PAYLOAD_LIMIT - WITHOUT_CNAME
+    fits = "\n" * 500 + "x" * (room - 1_000)
+    for cname in ("x" * room, "x" * (room + 1), fits, fits + "x"):
+        yield f"a cname of {len(cname)} letters", journal(*tree.tree(), with_cname(cname))
+    yield "a cname of longer letters", journal(*tree.tree(), with_cname("é" * (room // 2 + 1)))
+
+
+def with_cname(cname):
+    params = tree.AUDIO["rtpParameters"] | {"rtcp": {"cname": cname}}
+    return f"call 2 produce n d {tree.text(tree.AUDIO | {'rtpParameters': params})}"

@@ -1,191 +1,125 @@
-"""The host as far as Workers and Routers go. It grows no further: what comes later is checked by
-journals that stand in examples/ with their transcripts.
+"""The host of the whole tree: what it knows, and what follows from each entry. Not built are a call
+that pipes a Producer to another Router, restarts, a start that failed, the end of a channel, a
+stream that breaks, and the stop.
 """
 
-from dataclasses import dataclass, field
+from collections import Counter
 
-from model import lines
-from model.journal import SLOTS, NotServed, RouterCall, Spawned, WorkerCall
-from model.messages import Accepted, Log, Notice, Packet, Refused, message_of
+from model import calls, lines, replies
+from model.awaits import Awaits
+from model.calls import NotBuilt
+from model.journal import Await, Call, Spawned
+from model.messages import message_of
+from model.reading import Refused
+from model.requests import PAYLOAD_LIMIT, Requests
+from model.tree import Tree
 
-PAYLOAD_LIMIT = 4_194_304
-BUILT_OPTIONS = '{"mediaCodecs":[]}'
-
-
-class NotBuilt(Exception):
-    """An entry that is not built yet."""
-
-
-@dataclass
-class Request:
-    """A Router that a worker was asked to make."""
-
-    name: str
-    serial: int
-    call: tuple
-    is_settled: bool = False
-
-
-@dataclass
-class Worker:
-    """A Worker with its slot and its channel."""
-
-    name: str
-    call: tuple
-    slot: int
-    is_up: bool = False
-    is_running: bool = False
-    waiting: bytearray = field(default_factory=bytearray)
-    requests: list = field(default_factory=list)
-
-    def pending(self, id_):
-        if id_ <= len(self.requests) and not self.requests[id_ - 1].is_settled:
-            return self.requests[id_ - 1]
-        return None
-
-
-class Router:
-    """A Router: its name is what counts."""
+FIRST_SSRC = 100_000_000
 
 
 class Host:
     def __init__(self, seed):
         self.seed = seed
         self.notes = []
-        self.objects = {}
-        self.names_in_making = set()
-        self.calls = {}
-        self.workers = []
-        self.last_serial = 0
-
-    def note(self, line):
-        self.notes.append(line)
+        self.tree = Tree()
+        self.slots = []
+        self.requests = Requests()
+        self.awaits = Awaits()
+        self.calls = Counter()
+        self.next_serial = 1
+        self.next_ssrc = FIRST_SSRC
 
     def enter(self, entry):
-        if isinstance(entry, NotServed):
-            raise NotBuilt
-        if isinstance(entry, WorkerCall):
-            self.call_worker(entry)
-        elif isinstance(entry, RouterCall):
-            self.call_router(entry)
+        if isinstance(entry, Call):
+            self.call(entry)
+        elif isinstance(entry, Await):
+            self.awaits.add(self.next_key(entry.lane), entry)
+            self.awaits.settle(self)
         elif isinstance(entry, Spawned):
             self.start(entry)
         else:
             self.hear(entry)
 
-    def call_worker(self, call):
-        if call.budget != 0:
-            raise NotBuilt
-        key = self.next_call(call.lane)
-        if self.is_taken(call.name):
-            self.settle(key, "nametaken")
-        elif len(self.workers) == SLOTS:
-            self.settle(key, "typeerror slots")
-        else:
-            worker = Worker(call.name, key, len(self.workers) + 1)
-            self.workers.append(worker)
-            self.add(self.next_serial(), "worker", call.name, worker)
-            self.note(lines.spawn(worker.slot))
-
-    def call_router(self, call):
-        if call.options != BUILT_OPTIONS:
-            raise NotBuilt
-        key = self.next_call(call.lane)
-        worker = self.objects.get(call.worker)
-        if self.is_taken(call.name):
-            self.settle(key, "nametaken")
-        elif worker is None:
-            self.settle(key, "noname")
-        elif not isinstance(worker, Worker):
-            self.settle(key, "wrongkind")
-        elif not worker.is_running:
-            self.settle(key, "invalidstate")
-        else:
-            self.ask_for_router(worker, Request(call.name, self.next_serial(), key))
-
-    def ask_for_router(self, worker, request):
-        worker.requests.append(request)
-        self.names_in_making.add(request.name)
-        router = lines.id_text(self.seed, request.serial)
-        self.note(lines.sent(worker.slot, lines.create_router(len(worker.requests), router)))
+    def call(self, call):
+        key = self.next_key(call.lane)
+        try:
+            calls.answer(self, key, call)
+        except Refused as refused:
+            self.settle(key, str(refused), calls.name_made_by(call))
+        self.awaits.settle(self)
 
     def start(self, entry):
-        worker = self.worker_at(entry.slot, entry.generation)
-        if worker is None or worker.is_up:
+        slot = self.slot_at(entry, "wanted")
+        if slot is None:
             return
         if not entry.is_up:
             raise NotBuilt
-        worker.is_up = True
-        self.note(lines.up(worker.slot))
+        slot.phase = "up"
+        self.note(lines.up(slot.number))
+        self.awaits.settle(self)
 
     def hear(self, entry):
-        worker = self.worker_at(entry.slot, entry.generation)
-        if worker is None or not worker.is_up:
+        slot = self.slot_at(entry, "up")
+        if slot is None:
             return
-        worker.waiting += entry.data
-        for payload in take_payloads(worker.waiting):
-            self.hear_message(worker, message_of(payload))
+        slot.stream += entry.data
+        for payload in take_payloads(slot.stream):
+            replies.hear(self, slot, message_of(payload))
+            self.awaits.settle(self)
 
-    def hear_message(self, worker, message):
-        if isinstance(message, (Accepted, Refused)):
-            self.hear_response(worker, message)
-        elif message == Notice("worker", "running") and not worker.is_running:
-            worker.is_running = True
-            self.note(lines.running(worker.name))
-            self.settle(worker.call, "ok")
-        elif isinstance(message, (Notice, Packet)):
-            self.note(lines.stray(worker.slot))
-        elif isinstance(message, Log):
-            self.note(lines.log(worker.slot, message.letter, message.data))
-        else:
-            self.note(lines.unexpected(worker.slot))
+    def slot_at(self, entry, phase):
+        """The slot of a start or a chunk, if it is in this phase. Each worker is its first."""
+        if entry.slot > len(self.slots) or entry.generation != 1:
+            return None
+        slot = self.slots[entry.slot - 1]
+        return slot if slot.phase == phase else None
 
-    def hear_response(self, worker, response):
-        request = worker.pending(response.id)
-        if request is None:
-            self.note(lines.late(worker.slot, response.id))
-            return
-        request.is_settled = True
-        self.names_in_making.remove(request.name)
-        if isinstance(response, Accepted):
-            self.add(request.serial, "router", request.name, Router())
-            self.settle(request.call, "ok")
-        else:
-            self.settle(request.call, lines.refused_by_worker(response.error, response.reason))
-
-    def worker_at(self, slot, generation):
-        return self.workers[slot - 1] if slot <= len(self.workers) and generation == 1 else None
-
-    def is_taken(self, name):
-        return name in self.objects or name in self.names_in_making
-
-    def next_call(self, lane):
-        self.calls[lane] = self.calls.get(lane, 0) + 1
+    def next_key(self, lane):
+        self.calls[lane] += 1
         return lane, self.calls[lane]
 
-    def next_serial(self):
-        self.last_serial += 1
-        return self.last_serial
+    def draw(self, ssrcs=0):
+        """A serial was drawn, and so many SSRCs."""
+        self.next_serial += 1
+        self.next_ssrc += ssrcs
 
-    def add(self, serial, kind, name, thing):
-        self.objects[name] = thing
-        self.note(lines.opened(serial, kind, name, lines.id_text(self.seed, serial)))
+    def is_taken(self, name):
+        return self.tree.named(name) is not None or name in self.requests.names
 
-    def settle(self, key, outcome):
+    def producers(self):
+        """Those that are open, and those that are to be made."""
+        to_be_made = (thing for thing in self.requests.to_be_made() if thing.kind == "producer")
+        return [*(thing for thing in self.tree.producers if thing.is_open), *to_be_made]
+
+    def issue(self, request, data):
+        self.note(self.requests.issue(request, data))
+
+    def open(self, thing):
+        self.tree.add(thing)
+        self.note(lines.opened(thing.serial, thing.kind, thing.name, thing.id))
+
+    def settle(self, key, outcome, failed_name=None):
+        """A call or an await has come to its outcome. A call may have failed to make an object."""
         self.note(lines.settled(*key, outcome))
+        if failed_name is not None:
+            self.awaits.failed.add(failed_name)
+
+    def note(self, line):
+        self.notes.append(line)
+        self.awaits.hear(line)
 
 
-def take_payloads(waiting):
-    """Takes the whole frames from the front of what waits; a length over the limit is not built."""
+def take_payloads(stream):
+    """Takes the whole frames from the front of a stream; a length over the limit is not built."""
     payloads = []
     place = 0
-    while len(waiting) - place >= 4:
-        length = int.from_bytes(waiting[place : place + 4], "little")
+    while len(stream) - place >= 4:
+        length = int.from_bytes(stream[place : place + 4], "little")
         if length > PAYLOAD_LIMIT:
             raise NotBuilt
-        if len(waiting) - place - 4 < length:
+        if len(stream) - place - 4 < length:
             break
-        payloads.append(bytes(waiting[place + 4 : place + 4 + length]))
+        payloads.append(bytes(stream[place + 4 : place + 4 + length]))
         place += 4 + length
-    del waiting[:place]
+    del stream[:place]
     return payloads

@@ -3,7 +3,7 @@
 import re
 from dataclasses import dataclass
 
-from model.json_reader import is_json
+from model.json_reader import NoJson, json_value
 
 CHUNK_LIMIT = 65_536
 SLOTS = LANES = 64
@@ -26,22 +26,20 @@ class Fault(Exception):
 
 
 @dataclass
-class WorkerCall:
+class Call:
+    """A lane's call: its first word, and what stands behind that. Options are their JSON value."""
+
     lane: int
-    name: str
-    budget: int
+    word: str
+    given: list
 
 
 @dataclass
-class RouterCall:
+class Await:
     lane: int
     name: str
-    worker: str
-    options: str
-
-
-class NotServed:
-    """A call or a wait that no host serves yet."""
+    event: str
+    count: int
 
 
 @dataclass
@@ -100,11 +98,8 @@ def entry_of(line):
         return call_of(words[2], line)
     if words[0] == "await":
         with_words(words, 5)
-        number_of(words[1], 1, LANES)
-        name_of(words[2])
-        event_of(words[3])
-        number_of(words[4], 1, COUNTS)
-        return NotServed()
+        lane, name = number_of(words[1], 1, LANES), name_of(words[2])
+        return Await(lane, name, event_of(words[3]), number_of(words[4], 1, COUNTS))
     if words[0] == "spawned":
         with_words(words, 4)
         return Spawned(*worker_of(words), is_up_of(words[3]))
@@ -120,12 +115,7 @@ def call_of(word, line):
     words = line.split(" ", 2 + len(forms) if forms[-1] is json_of else -1)
     with_words(words, 3 + len(forms))
     lane = number_of(words[1], 1, LANES)
-    values = [read(part) for read, part in zip(forms, words[3:])]
-    if word == "worker":
-        return WorkerCall(lane, *values)
-    if word == "router":
-        return RouterCall(lane, *values)
-    return NotServed()
+    return Call(lane, word, [read(part) for read, part in zip(forms, words[3:])])
 
 
 def with_words(words, count):
@@ -162,9 +152,11 @@ def is_up_of(word):
 
 
 def json_of(word):
-    if not is_json(word):
-        raise Fault("json")
-    return word
+    """The value of a JSON text."""
+    try:
+        return json_value(word)
+    except NoJson:
+        raise Fault("json") from None
 
 
 def bytes_of(word, limit=None):

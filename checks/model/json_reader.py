@@ -30,14 +30,6 @@ def json_value(text):
     return value
 
 
-def is_json(text):
-    try:
-        json_value(text)
-    except NoJson:
-        return False
-    return True
-
-
 def _after_blanks(text, place):
     return BLANKS.match(text, place).end()
 

@@ -12,8 +12,12 @@ def id_text(seed, serial):
     return re.sub("(.{8})(.{4})(.{4})(.{4})(.{12})", r"\1-\2-\3-\4-\5", f"{bits:032x}")
 
 
-def create_router(id_, router):
-    return f'{{"id":{id_},"internal":{{"routerId":"{router}"}},"method":"worker.createRouter"}}'
+def request(id_, method, internal, data):
+    """The payload of a request: compact JSON, its members in ascending order."""
+    value = {"id": id_, "internal": internal, "method": method}
+    if data is not None:
+        value["data"] = data
+    return json.dumps(value, ensure_ascii=False, separators=(",", ":"), sort_keys=True)
 
 
 def spawn(slot):
@@ -32,8 +36,28 @@ def sent(slot, payload):
     return f"sent {slot} 1 {payload}"
 
 
+def sent_packet(slot, producer, data):
+    return f"sent {slot} 1 rtp {producer} {data.hex()}"
+
+
 def opened(serial, kind, name, id_):
     return f"open {serial} {kind} {name} {id_}"
+
+
+def closed(serial, name, reason):
+    return f"closed {serial} {name} {reason}"
+
+
+def turned(name, is_quiet):
+    return f"{'paused' if is_quiet else 'resumed'} {name}"
+
+
+def learnt(name, ip, port):
+    return f"tuple {name} {ip} {port}"
+
+
+def packet(name, data):
+    return f"rtp {name} {data.hex()}"
 
 
 def settled(lane, place, outcome):

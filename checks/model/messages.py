@@ -1,9 +1,9 @@
 """Which message a payload of a worker is."""
 
-import re
 from dataclasses import dataclass
 
 from model.json_reader import NoJson, json_value
+from model.reading import UUID
 
 IDS = 2**32 - 1
 
@@ -11,6 +11,7 @@ IDS = 2**32 - 1
 @dataclass
 class Accepted:
     id: int
+    content: object
 
 
 @dataclass
@@ -24,6 +25,7 @@ class Refused:
 class Notice:
     target: str
     event: str
+    content: object
 
 
 @dataclass
@@ -32,8 +34,12 @@ class Log:
     data: bytes
 
 
+@dataclass
 class Packet:
-    """A packet of some object."""
+    """A packet of an object, whose id is in small letters."""
+
+    id: str
+    data: bytes
 
 
 class Unexpected:
@@ -44,15 +50,16 @@ def message_of(payload):
     if payload[:1] in (b"D", b"W", b"E", b"X"):
         return Log(chr(payload[0]), payload[1:])
     if payload[:1] == b"R":
-        return Packet() if is_uuid(payload[1:37]) else Unexpected()
+        return packet_of(payload[1:37], payload[37:])
     try:
         return said_by(json_value(payload.decode("utf-8")))
     except (UnicodeDecodeError, NoJson):
         return Unexpected()
 
 
-def is_uuid(text):
-    return re.fullmatch(rb"[0-9a-fA-F]{8}(?:-[0-9a-fA-F]{4}){3}-[0-9a-fA-F]{12}", text) is not None
+def packet_of(text, data):
+    id_ = text.decode("latin-1")
+    return Unexpected() if UUID.fullmatch(id_) is None else Packet(id_.lower(), data)
 
 
 def said_by(value):
@@ -62,7 +69,7 @@ def said_by(value):
         return response_of(value)
     target, event = value.get("targetId"), value.get("event")
     if type(target) is str and type(event) is str:
-        return Notice(target, event)
+        return Notice(target, event, value.get("data"))
     return Unexpected()
 
 
@@ -71,7 +78,7 @@ def response_of(value):
     if type(id_) is not int or not 1 <= id_ <= IDS:
         return Unexpected()
     if value.get("accepted") is True:
-        return Accepted(id_)
+        return Accepted(id_, value.get("data"))
     error, reason = value.get("error"), value.get("reason")
     if type(error) is not str:
         return Unexpected()

@@ -1,19 +1,7 @@
 -- What an index tells after a change at one key.
-use Rattle.std.proofs.Common.{◌≡◌, ℕ, List, Bool, true, false, not, ◌&&◌, ◌||◌, cond, Option, Some, bytes_eq, refl, sym, ap, subst, ◌∙◌}
-use Rattle.std.proofs.lemmas.Map.Text.{is_eq-slice_cmp}
-use Rattle.std.specs.BTreeMap as tree
-use Rattle.std.specs.BTreeMap.{BTreeMap}
-use Rattle.std.specs.BTreeSet as texts
-use Rattle.std.specs.BTreeSet.{BTreeSet}
+use Rattle.std.proofs.Common.{◌≡◌, ℕ, Bool, true, false, cond, Option, Some, refl, ap, ◌∙◌}
 use Rattle.std.specs.HashMap as hash
 use Rattle.std.specs.HashMap.{HashMap}
-use Rattle.std.specs.List.{list_any}
-use Rattle.std.specs.Cmp.{eq_by_cmp_equiv}
-use Rattle.std.specs.Cmp.Lexicographic.{slice_cmp, bytes_decides, nat_list_cmp_total, nat_list_eq_equiv}
-use Rattle.std.specs.Map as map
-use Rattle.std.specs.Map.{IsKeyTest, AreApart, lookup}
-use Rattle.std.specs.Set as set
-use Rattle.std.specs.Ordering.{is_eq, nat_cmp, eq_by_cmp}
 use Rattle.ms_base.specs.declared.keys.WorkerKey.{WorkerKey}
 use Rattle.host_notes.specs.Keys.{same_worker}
 use Rattle.host_core.specs.LookUps.{same_channel}
@@ -34,81 +22,6 @@ module _ {Q Y : Type 0} (same : Q → Q → Bool) (tied : (a b : Q) → same a b
   -- the value at the key is a function of what it was
   pub changed : (h : Y → Y) → y ≡ h (f k) → (q : Q) → g q ≡ cond (same k q) (h (f q)) (f q)
   changed h is q = changed-at h is q (same k q) refl (after q)
-
--- ---- trees whose keys are texts
-
-pub bytes-same : (a b : List ℕ) → bytes_eq a b ≡ true → a ≡ b
-bytes-same a b = (bytes_decides a b).0
-
-apart : (bs cs ks : List ℕ) → bytes_eq bs cs ≡ false → is_eq (slice_cmp nat_cmp bs ks) ≡ true → is_eq (slice_cmp nat_cmp cs ks) ≡ false
-apart bs cs ks f t =
-    let found : bytes_eq bs ks ≡ true = sym (is_eq-slice_cmp bs ks) ∙ t in
-    is_eq-slice_cmp cs ks ∙ (nat_list_eq_equiv.symm cs ks ∙ (sym (nat_list_eq_equiv.congr bs ks cs found) ∙ f))
-
--- a look-up that finds this at one text, and at each other key what it found
-module _ {K A : Type 0} (bytes : K → List ℕ) (name : List ℕ) (was now : (K → Bool) → A) (found : A) where
-  abbrev is_text : List ℕ → K → Bool
-  is_text text k = is_eq (slice_cmp nat_cmp text (bytes k))
-
-  module _ (here : now (is_text name) ≡ found)
-      (there : (other : K → Bool) → IsKeyTest (eq_by_cmp (λ x y. slice_cmp nat_cmp (bytes x) (bytes y))) other → AreApart (is_text name) other → now other ≡ was other) where
-    found-at : (other : List ℕ) (b : Bool) → bytes_eq name other ≡ b → now (is_text other) ≡ cond b found (was (is_text other))
-    found-at other true t = subst (λ l. now (is_text l) ≡ found) (bytes-same name other t) here
-    found-at other false f =
-        there (is_text other) (λ x y. (eq_by_cmp_equiv nat_list_cmp_total).congr other (bytes x) (bytes y)) (λ k. apart name other (bytes k) f)
-
-    found-after : (other : List ℕ) → now (is_text other) ≡ cond (bytes_eq name other) found (was (is_text other))
-    found-after other = found-at other (bytes_eq name other) refl
-
-keys_of-others : {K X : Type 0} (eq : K → K → Bool) (test other : K → Bool) (old new : List (K × X)) → map.KeepsOthers eq test old new → IsKeyTest eq other → AreApart test other
-    → lookup other new ≡ lookup other old
-unfolding map.KeepsOthers
-keys_of-others eq test other old new h = h other
-
-set-others : {K : Type 0} (eq : K → K → Bool) (test other : K → Bool) (old new : List K) → set.KeepsOthers eq test old new → IsKeyTest eq other → AreApart test other
-    → list_any other new ≡ list_any other old
-unfolding set.KeepsOthers
-set-others eq test other old new h = h other
-
-module _ {K X : Type 0} (bytes : K → List ℕ) where
-  abbrev pub at_text : BTreeMap K X → List ℕ → Option X
-  at_text m name = tree.get_by (λ k. slice_cmp nat_cmp name (bytes k)) m
-
-  pub text-after : (name : List ℕ) (m n : BTreeMap K X) (v : Option X)
-      → tree.UpdatesBy (λ x y. slice_cmp nat_cmp (bytes x) (bytes y)) (λ k. slice_cmp nat_cmp name (bytes k)) m n v
-      → (other : List ℕ) → at_text n other ≡ cond (bytes_eq name other) v (at_text m other)
-  text-after name m n v updates =
-      found-after bytes name (λ test. lookup test m.entries) (λ test. lookup test n.entries) v updates.1
-      (λ other. keys_of-others _ _ other m.entries n.entries updates.3)
-
-or-cond : (b x : Bool) → cond b true x ≡ (b || x)
-or-cond true x = refl
-or-cond false x = refl
-
-and-cond : (b x : Bool) → cond b false x ≡ (not b && x)
-and-cond true x = refl
-and-cond false x = refl
-
-module _ {K : Type 0} (bytes : K → List ℕ) where
-  abbrev pub has_text : BTreeSet K → List ℕ → Bool
-  has_text s name = texts.contains_by (λ k. slice_cmp nat_cmp name (bytes k)) s
-
-  module _ (name : List ℕ) (s t : BTreeSet K) where
-    text-changed : (b : Bool) → texts.UpdatesBy (λ x y. slice_cmp nat_cmp (bytes x) (bytes y)) (λ k. slice_cmp nat_cmp name (bytes k)) s t b
-        → (other : List ℕ) → has_text t other ≡ cond (bytes_eq name other) b (has_text s other)
-    text-changed b updates =
-        found-after bytes name (λ test. list_any test s.keys) (λ test. list_any test t.keys) b updates.1
-        (λ other. set-others _ _ other s.keys t.keys updates.3)
-
-    pub text-added : texts.UpdatesBy (λ x y. slice_cmp nat_cmp (bytes x) (bytes y)) (λ k. slice_cmp nat_cmp name (bytes k)) s t true
-        → (other : List ℕ) (same : Bool) → bytes_eq name other ≡ same → has_text t other ≡ (same || has_text s other)
-    text-added updates other same is =
-        text-changed true updates other ∙ (ap (λ b. cond b true (has_text s other)) is ∙ or-cond same (has_text s other))
-
-    pub text-removed : texts.UpdatesBy (λ x y. slice_cmp nat_cmp (bytes x) (bytes y)) (λ k. slice_cmp nat_cmp name (bytes k)) s t false
-        → (other : List ℕ) (same : Bool) → bytes_eq name other ≡ same → has_text t other ≡ (not same && has_text s other)
-    text-removed updates other same is =
-        text-changed false updates other ∙ (ap (λ b. cond b false (has_text s other)) is ∙ and-cond same (has_text s other))
 
 -- ---- a table whose keys are channels
 

@@ -1,10 +1,5 @@
-pub mod Answer
+pub mod Answers
 pub mod Apply
-pub mod Laws
+pub mod Closes
 pub mod LookUps
-pub mod Places
-pub mod Rows
-pub mod Run
-pub mod State
-pub mod Step
 pub mod Tables

@@ -1,40 +1,31 @@
-ghost use Rattle.std.specs.Prelude.{◌≡◌, ℕ, List, ◌<◌, ◌≤◌, ◌^◌, ◌+◌, IfOk, Some, None};
-ghost use Rattle.host_core.specs.Answer.{answer, answer_to, build, on_channel, is_taken, max_slots, new_object, router_ask};
-ghost use Rattle.ms_base.specs.declared.op.Op.TheVariants as operation;
-ghost use Rattle.host_core.specs.Answer as answers;
-ghost use Rattle.host_core.specs.Tables.{HasSerial, HasNoFloat, known_of, built_view, answer_view, ask_view};
-ghost use Rattle.host_core.specs.State.{object_id};
+//! What a call comes to.
 
-use crate::objects::Object;
-use crate::tables::Tables;
+ghost use Rattle.std.specs.Prelude.{◌≡◌, ◌≤◌, false, length, IfOk, Ok, option_and_then};
+ghost use Rattle.channel_msgs.specs.View.{request_view};
+ghost use Rattle.ms_base.specs.declared.op.Op.{Op};
+ghost use Rattle.object_tree.specs.Objects.{named, numbered};
+ghost use Rattle.host_notes.specs.Sent.{max_packet};
+ghost use Rattle.request_build.specs.Asks.{Own};
+ghost use Rattle.request_build.specs.Asks as asks;
+ghost use Rattle.request_build.specs.Built.{built};
+ghost use Rattle.request_build.specs.Known.{known_of};
+ghost use Rattle.request_build.specs.Laws.{HasNoFloat};
+ghost use Rattle.host_model.specs.Answer.{answer, asked, closes, own, sends, tells};
+ghost use Rattle.host_model.specs.State.{State, channel_of};
+ghost use Rattle.host_model.specs.Step.{due_of, turn_of};
+ghost use Rattle.host_tables.specs.Kept.{IsKept};
+ghost use Rattle.host_tables.specs.declared.tables.Tables.{Tables};
+ghost use Rattle.host_core.specs.Answers.{IsAnswer, IsDue, IsPlacedDue, if_open, issued_as, placed_as, unnumbered};
+ghost use Rattle.host_core.specs.Apply.{is_unbuilt_op};
+ghost use Rattle.host_core.specs.Tables.{HasRoom};
+
 use channel_frames::MAX_PAYLOAD;
-use channel_msgs::{Ids, Request, write_request};
-use ms_base::{Bytes, Code, Id, Kind, Name, NoMemory, Op, Outcome, Serial, Text, WorkerKey};
-
-/// How many slots there may be.
-const MAX_SLOTS: usize = 64;
-
-/// A request to a worker, but for its channel, its id and its owner.
-#[derive(Drop)]
-pub(crate) struct Ask {
-    /// The object that it is issued under.
-    pub(crate) under: Serial,
-    /// The Worker to whose process it goes.
-    pub(crate) worker: Serial,
-    /// The object that its acceptance adds to the tree.
-    pub(crate) makes: Option<Object>,
-    /// The request, whose id isn't drawn yet.
-    pub(crate) request: Request,
-}
-
-/// What a call comes to, by the objects that it needs alone.
-#[derive(Drop)]
-pub(crate) enum Built {
-    Refused { outcome: Outcome },
-    /// A Worker is to stand in the tree at once, and its start is wanted.
-    NewWorker { name: Name, budget: u32 },
-    Asked { ask: Ask },
-}
+use channel_msgs::{Request, write_request};
+use host_model::Due;
+use host_tables::Tables;
+use ms_base::{Bytes, Id, Name, NoMemory, Op, Outcome, Serial, WorkerKey};
+use object_tree::Object;
+use request_build::{BuildFault, Built, Draws, Keep, build, built_requests_have_whole_numbers};
 
 /// What a call comes to.
 #[derive(Drop)]
@@ -47,181 +38,222 @@ pub(crate) enum Answer {
         name: Name,
         budget: u32,
     },
-    /// A request is issued under an object, perhaps to make one.
+    /// A request goes out on a channel with the next id of that.
     Issues {
-        under: Serial,
-        makes: Option<Object>,
         channel: WorkerKey,
-        id: u32,
+        under: Serial,
+        due: Due,
+        /// What is drawn behind it.
+        next: Draws,
         payload: Bytes,
+    },
+    /// An object closes: this one falls, where it is open.
+    Closes {
+        falls: Option<Serial>,
+    },
+    Tells {
+        answer: bool,
+    },
+    /// A packet goes to a worker, for a Producer.
+    Sends {
+        channel: WorkerKey,
+        producer: Id,
+        packet: Bytes,
     },
 }
 
-impl Tables {
-    /// What a call comes to: its first refusal, a start, or a request with its payload.
-    pub(crate) fn answer(&self, op: &Op) -> Result<Answer, NoMemory>
-        requires { HasSerial self.now }
-        ensures { IfOk result (λ a. answer_view a ≡ answer (known_of self.now) op.now) }
-    {
-        match self.build(op)? {
-            Built::Refused { outcome } => Ok(Answer::Refuses { outcome }),
-            Built::NewWorker { name, budget } => Ok(Answer::AddsWorker { name, budget }),
-            Built::Asked { ask } => self.on_channel(ask),
-        }
-    }
+/// Where a request goes.
+#[derive(Drop)]
+pub(crate) enum Placed {
+    Refuses { outcome: Outcome },
+    /// To this channel, as this payload, with the channel's next id.
+    Issues { channel: WorkerKey, payload: Bytes },
+}
 
-    // What a call comes to, by the objects that it needs alone.
-    fn build(&self, op: &Op) -> Result<Built, NoMemory>
-        requires { HasSerial self.now }
-        ensures { IfOk result (λ b. built_view b ≡ build (known_of self.now) op.now) }
-    {
-        match op {
-            Op::Worker { name, budget } => self.build_worker(name, *budget),
-            Op::Router { name, worker, .. } => self.build_router(name, worker),
-            // No other call is built, so none is entered.
-            _ => Ok(Built::Refused {
-                outcome: Outcome::NoName,
-            }),
-        }
-    }
-
-    // Whether an object has a name, or a pending request is to make one of it.
-    fn is_taken(&self, name: &Name) -> bool
-        ensures { result ≡ is_taken (known_of self.now) name.now }
-    {
-        self.objects.named(name.as_slice()).is_some() || self.requests.is_making(name.as_slice())
-    }
-
-    fn build_worker(&self, name: &Name, budget: u32) -> Result<Built, NoMemory>
-        ensures { IfOk result (λ b. built_view b ≡ build (known_of self.now) (operation.Worker name.now budget)) }
-    {
-        if self.is_taken(name) {
-            return Ok(Built::Refused {
-                outcome: Outcome::NameTaken,
-            });
-        }
-        if self.slots.len() >= MAX_SLOTS {
-            return Ok(Built::Refused {
-                outcome: Outcome::TypeError { code: Code::Slots },
-            });
-        }
-        Ok(Built::NewWorker {
-            name: name.copy(self.alloc)?,
-            budget,
-        })
-    }
-
-    fn build_router(&self, name: &Name, worker: &Name) -> Result<Built, NoMemory>
-        requires { HasSerial self.now }
-        ensures { (options : List ℕ) → IfOk result (λ b. built_view b ≡ build (known_of self.now) (operation.Router name.now worker.now options)) }
-    {
-        if self.is_taken(name) {
-            return Ok(Built::Refused {
-                outcome: Outcome::NameTaken,
-            });
-        }
-        let Some(found) = self.objects.named(worker.as_slice()) else {
-            return Ok(Built::Refused {
-                outcome: Outcome::NoName,
-            });
-        };
-        if found.kind != Kind::Worker {
-            return Ok(Built::Refused {
-                outcome: Outcome::WrongKind,
-            });
-        }
-        if found.closed.is_some() || !found.running {
-            return Ok(Built::Refused {
-                outcome: Outcome::InvalidState,
-            });
-        }
-        let ask = self.router_ask(name, found)?;
-        Ok(Built::Asked { ask })
-    }
-
-    // The request for a Router on a Worker.
-    fn router_ask(&self, name: &Name, worker: &Object) -> Result<Ask, NoMemory>
-        requires { HasSerial self.now }
-        ensures { IfOk result (λ ask. ask_view ask ≡ router_ask (known_of self.now) name.now worker.now) }
-    {
-        let router = self.new_object(Kind::Router, name, Some(worker.serial), worker.worker)?;
-        let ids = Ids {
-            router: Some(router.id),
-            transport: None,
-            producer: None,
-            consumer: None,
-        };
-        Ok(Ask {
-            under: worker.serial,
-            worker: worker.worker,
-            makes: Some(router),
-            request: Request {
-                id: 0,
-                method: Text::from_str(self.alloc, "worker.createRouter")?,
+/// What a call comes to: its first refusal, a start, a request with its payload, or an answer at once.
+pub(crate) fn answer_to(tables: &Tables, op: &Op) -> Result<Answer, NoMemory>
+    requires room { HasRoom tables.now }
+    requires built { is_unbuilt_op op.now ≡ false }
+    ensures answer { IfOk result (λ a. (s : State) → IsKept s tables.now → IsAnswer op.now a (answer s op.now)) }
+    ensures due { IfOk result (λ a. IsDue tables.now a) }
+{
+    built_requests_have_whole_numbers();
+    match build(tables.alloc, &tables.tree, &tables.kept, op, tables.next) {
+        Ok(
+            Built::Ask {
+                method,
                 ids,
-                content: None,
+                content,
+                under,
+                makes,
+                keeps,
+                next,
             },
-        })
-    }
-
-    /// The object that a call is to make, with the next serial.
-    pub(crate) fn new_object(
-        &self,
-        kind: Kind,
-        name: &Name,
-        parent: Option<Serial>,
-        worker: Serial,
-    ) -> Result<Object, NoMemory>
-        requires { HasSerial self.now }
-        ensures { IfOk result (λ o. o ≡ new_object (known_of self.now) kind name.now parent worker) }
-    {
-        let next = self.objects.next();
-        Ok(Object {
-            serial: Serial(next),
-            name: name.copy(self.alloc)?,
-            id: Id::of(self.seed, next),
-            kind,
-            parent,
-            worker,
-            producer: None,
-            closed: None,
-            paused: false,
-            producer_paused: false,
-            running: false,
-            far: None,
-        })
-    }
-
-    // A request on the channel of its Worker, if that is up, has an id left and takes so long a payload.
-    fn on_channel(&self, ask: Ask) -> Result<Answer, NoMemory>
-        requires { HasNoFloat (answers.Asked (ask_view ask)) }
-        ensures { IfOk result (λ a. answer_view a ≡ answer_to (known_of self.now) (answers.Asked (ask_view ask))) }
-    {
-        let Some(channel) = self.slots.channel_of(ask.worker) else {
-            return Ok(Answer::Refuses {
-                outcome: Outcome::InvalidState,
-            });
-        };
-        let before = self.requests.issued(channel);
-        if before >= u32::MAX as usize {
-            return Ok(Answer::Refuses {
-                outcome: Outcome::IdsSpent,
-            });
+        ) => {
+            let due = due_of(turn_of(op), makes, keeps);
+            let request = Request {
+                id: 0,
+                method,
+                ids,
+                content,
+            };
+            Ok(issue(place(tables, under, request)?, under, due, next))
         }
-        let id = before as u32 + 1;
-        let request = Request { id, ..ask.request };
-        let payload = write_request(self.alloc, &request)?;
-        if payload.len() > MAX_PAYLOAD {
-            return Ok(Answer::Refuses {
-                outcome: Outcome::TooBig,
-            });
-        }
-        Ok(Answer::Issues {
-            under: ask.under,
-            makes: ask.makes,
+        Ok(Built::Own { answer }) => own(tables, op, answer),
+        Err(BuildFault::Refused(outcome)) => Ok(Answer::Refuses { outcome }),
+        Err(BuildFault::NoMemory) => Err(NoMemory),
+    }
+}
+
+// Whether a call pauses or resumes.
+fn turn_of(op: &Op) -> Option<bool>
+    ensures { result ≡ turn_of op.now }
+{
+    match op {
+        Op::Pause { .. } => Some(true),
+        Op::Resume { .. } => Some(false),
+        _ => None,
+    }
+}
+
+// What the acceptance of a request does.
+fn due_of(turn: Option<bool>, makes: Option<Object>, keeps: Keep) -> Due
+    ensures { result ≡ due_of turn makes keeps }
+{
+    match makes {
+        Some(object) => Due::Opens { object, keeps },
+        None => match turn {
+            Some(paused) => Due::Turns { paused },
+            None => Due::Nothing,
+        },
+    }
+}
+
+// Where a request goes: on the channel of its worker, if that is up, has an id left and takes so long a payload.
+fn place(tables: &Tables, under: Serial, request: Request) -> Result<Placed, NoMemory>
+    ensures placed { IfOk result (λ p. (s : State) (r : asks.Request) → IsKept s tables.now → r.under ≡ under → unnumbered r ≡ request_view request → HasNoFloat r → placed_as r p ≡ asked s r) }
+    ensures due { IfOk result (λ p. IsPlacedDue tables.now p) }
+{
+    let Some(channel) = channel_above(tables, under) else {
+        return Ok(Placed::Refuses {
+            outcome: Outcome::InvalidState,
+        });
+    };
+    let Some(id) = tables.requests.last(channel).checked_add(1) else {
+        return Ok(Placed::Refuses {
+            outcome: Outcome::IdsSpent,
+        });
+    };
+    let payload = write_request(tables.alloc, &Request { id, ..request })?;
+    if payload.len() > MAX_PAYLOAD {
+        return Ok(Placed::Refuses {
+            outcome: Outcome::TooBig,
+        });
+    }
+    Ok(Placed::Issues { channel, payload })
+}
+
+// The channel of the worker that the object of a serial lives in, while that is up.
+fn channel_above(tables: &Tables, serial: Serial) -> Option<WorkerKey>
+    ensures { result ≡ option_and_then (λ o. channel_of tables.now.slots.slots o.worker) (numbered tables.now.tree serial) }
+{
+    channel_to(tables, tables.tree.get(serial)?)
+}
+
+// The channel of the worker that an object lives in, while that is up.
+fn channel_to(tables: &Tables, object: &Object) -> Option<WorkerKey>
+    ensures { result ≡ channel_of tables.now.slots.slots object.now.worker }
+{
+    tables.slots.channel_of(object.worker)
+}
+
+// A request, where it goes.
+fn issue(placed: Placed, under: Serial, due: Due, next: Draws) -> Answer
+    ensures { result ≡ issued_as under due next placed }
+{
+    match placed {
+        Placed::Refuses { outcome } => Answer::Refuses { outcome },
+        Placed::Issues { channel, payload } => Answer::Issues {
             channel,
-            id,
+            under,
+            due,
+            next,
             payload,
-        })
+        },
+    }
+}
+
+// A call that asks nothing of a worker.
+fn own(tables: &Tables, op: &Op, told: Option<bool>) -> Result<Answer, NoMemory>
+    requires { built (known_of tables.now.tree tables.now.kept tables.now.next) op.now ≡ Ok (Own told) }
+    ensures answer { IfOk result (λ a. (s : State) → IsKept s tables.now → IsAnswer op.now a (own s op.now told)) }
+    ensures due { IfOk result (λ a. IsDue tables.now a) }
+{
+    match op {
+        Op::Worker { name, budget } => Ok(Answer::AddsWorker {
+            name: name.copy(tables.alloc)?,
+            budget: *budget,
+        }),
+        Op::Close { name } => Ok(closes(tables, name)),
+        Op::Send { producer, packet } => sends(tables, producer, packet),
+        _ => Ok(tells(told)),
+    }
+}
+
+fn closes(tables: &Tables, name: &Name) -> Answer
+    ensures answer { (s : State) (o : Op) → IsKept s tables.now → IsAnswer o result (closes (named s.objects name.now)) }
+    ensures due { IsDue tables.now result }
+{
+    match tables.tree.by_name(name) {
+        Some(object) => Answer::Closes {
+            falls: if_open(object),
+        },
+        None => Answer::Refuses {
+            outcome: Outcome::NoName,
+        },
+    }
+}
+
+// The serial of an object that is open.
+fn if_open(object: &Object) -> Option<Serial>
+    ensures { result ≡ if_open object.now }
+{
+    match object.closed {
+        Some(_) => None,
+        None => Some(object.serial),
+    }
+}
+
+fn sends(tables: &Tables, producer: &Name, packet: &Bytes) -> Result<Answer, NoMemory>
+    requires { length packet.now ≤ max_packet }
+    ensures answer { IfOk result (λ a. (s : State) (o : Op) → IsKept s tables.now → IsAnswer o a (sends s packet.now (named s.objects producer.now))) }
+    ensures due { IfOk result (λ a. IsDue tables.now a) }
+{
+    let Some(object) = tables.tree.by_name(producer) else {
+        return Ok(Answer::Refuses {
+            outcome: Outcome::NoName,
+        });
+    };
+    let Some(channel) = channel_to(tables, object) else {
+        return Ok(Answer::Refuses {
+            outcome: Outcome::InvalidState,
+        });
+    };
+    Ok(Answer::Sends {
+        channel,
+        producer: object.id,
+        packet: packet.copy(tables.alloc)?,
+    })
+}
+
+fn tells(told: Option<bool>) -> Answer
+    ensures answer { (o : Op) → IsAnswer o result (tells told) }
+    ensures due { (t : Tables) → IsDue t result }
+{
+    match told {
+        Some(answer) => Answer::Tells { answer },
+        None => Answer::Refuses {
+            outcome: Outcome::InvalidState,
+        },
     }
 }

@@ -1,4 +1,4 @@
-ghost use Rattle.std.specs.Prelude.{◌≡◌, ◌≢◌, ◌&&◌, ◌+◌, ◌^◌, ◌<◌, ◌≤◌, List, [], ◌∷◌, ◌++◌, length, map, drop, flat_map, true, false, Err, None, OnOk, OnErr, IfOk, IfSome, IfErr, IsOkUnless, min};
+ghost use Rattle.std.specs.Prelude.{◌≡◌, ◌≢◌, ◌&&◌, ◌+◌, ◌^◌, ◌<◌, ◌≤◌, ℕ, List, [], ◌∷◌, ◌++◌, length, map, drop, flat_map, true, false, Err, None, OnOk, OnErr, IfOk, IfSome, IfErr, IsOkUnless, min};
 ghost use Rattle.ms_base.specs.declared.entry.Entry.TheVariants as entry;
 ghost use Rattle.ms_base.specs.declared.keys.WorkerKey.{WorkerKey};
 ghost use Rattle.channel_frames.specs.Frames.{frames, rest_of, is_broken};
@@ -6,22 +6,28 @@ ghost use Rattle.channel_msgs.specs.Read.{message_of};
 ghost use Rattle.journal_text.specs.Written.{journal_size, max_journal, max_told};
 ghost use Rattle.transcript.specs.Lines.{note_line};
 ghost use Rattle.host_core.specs.Apply.{fault_of, size_with};
-ghost use Rattle.host_core.specs.Tables.{BreaksNone, HasRoom, Goes, Moves, IsHeld, ShowsTheSame};
+ghost use Rattle.host_core.specs.Tables.{CanHear, HasRoom, Goes, IsHeld};
+ghost use Rattle.host_tables.specs.Kept.{ShowsTheSame};
+ghost use Rattle.host_tables.specs.LookUps.{phase_of};
 ghost use Rattle.host_core.specs.LookUps.{unread_of};
-ghost use Rattle.host_core.specs.Run.{with_entry, after, state_of, notes_of, transcript_of, slot_look, look_at};
+ghost use Rattle.host_model.specs.Run.{with_entry, after, state_of, notes_of, transcript_of, slot_look, look_at};
 ghost use Rattle.host_notes.specs.Sent.{sent_of};
 ghost use Rattle.host_notes.specs.Verdicts.{verdict_in};
-ghost use Rattle.host_core.specs.State.{State, is_up};
+ghost use Rattle.host_model.specs.State.{State, is_up};
 ghost use Rattle.host_notes.specs.Keys.{same_worker};
-ghost use Rattle.host_core.specs.Step.{Says, steps};
+ghost use Rattle.host_model.specs.Step.{Awaits, Calls, Says, step, steps};
 
-use crate::laws::draws_are_bounded;
+use crate::calls::call;
+use crate::hear::hear_payload;
 use crate::readers::Readers;
-use crate::slots::{Phase, Shown};
-use crate::tables::Tables;
 use channel_frames::{FrameFault, frames_of_a_cut_stream};
+use host_laws::{draws_are_bounded, journals_go_on, streams_stand};
+use host_model::hosts_are_sound;
+use host_tables::{Phase, Shown, Tables};
 use journal_text::{MAX_JOURNAL, entry_size, head_size};
-use ms_base::{Applied, ApplyFault, CallKey, Entry, NoMemory, Op, SlotLook, Verdict, WorkerKey};
+use ms_base::{
+    Applied, ApplyFault, CallKey, Entry, Event, Name, NoMemory, Op, SlotLook, Verdict, WorkerKey,
+};
 use std::alloc::Global;
 use std::marker::Model;
 use transcript::Note;
@@ -39,7 +45,7 @@ pub struct Host {
 }
 
 impl Model for Host {
-    ghost use Rattle.host_core.specs.Run.{HostView};
+    ghost use Rattle.host_model.specs.Run.{HostView};
     ghost use Rattle.host_core.specs.Tables.{IsRun};
 
     ghost Value = { HostView };
@@ -55,6 +61,7 @@ impl Host {
         requires { seed < 2 ^ 60 }
         ensures { IfOk result (λ host. host ≡ record { journal = record { seed = seed; entries = [] }; spent = false }) }
     {
+        hosts_are_sound();
         Ok(Host {
             seed,
             spent: false,
@@ -85,6 +92,7 @@ impl Host {
         ensures memory { result ≡ Err ApplyFault.NoMemory → self.new ≡ record self.old { spent = true } }
         ensures unchanged { IfErr result (λ fault. fault ≢ ApplyFault.NoMemory → self.new ≡ self.old) }
     {
+        journals_go_on();
         let size = self.size.saturating_add(entry_size(&entry));
         match self.fault(&entry, size) {
             Some(fault) => Err(fault),
@@ -122,7 +130,8 @@ impl Host {
                 self.tables.slots.is_up(*worker)
                     && self.readers.breaks_with(*worker, bytes.as_slice())
             }
-            _ => true,
+            Entry::Await { .. } => false,
+            Entry::Gone { .. } | Entry::Stop => true,
         }
     }
 
@@ -140,7 +149,9 @@ impl Host {
         ensures memory { result ≡ Err ApplyFault.NoMemory → self.new ≡ record self.old { spent = true } }
     {
         draws_are_bounded();
+        journals_go_on();
         frames_of_a_cut_stream();
+        hosts_are_sound();
         let place = self.journal.len();
         let first_note = self.tables.notes.len();
         if self.journal.reserve(1).is_err() {
@@ -213,7 +224,7 @@ impl Host {
 
     // The state of a slot of which this is shown.
     fn look_at(&self, shown: Shown) -> SlotLook
-        ensures { result ≡ look_at (notes_of self.now.journal) shown.key (Rattle.host_core.specs.LookUps.phase_of shown.phase) }
+        ensures { result ≡ look_at (notes_of self.now.journal) shown.key (phase_of shown.phase) }
     {
         let generation = shown.key.generation;
         match shown.phase {
@@ -222,6 +233,7 @@ impl Host {
                 generation,
                 sent: self.sent(shown.key).len() as u64,
             },
+            Phase::Over { died } => SlotLook::Over { died },
         }
     }
 }
@@ -232,37 +244,72 @@ fn is_unbuilt_op(op: &Op) -> bool
 {
     match op {
         Op::Worker { budget, .. } => *budget != 0,
-        Op::Router { options, .. } => options.as_str() != "{\"mediaCodecs\":[]}",
-        _ => true,
+        Op::PipeRouter { .. } => true,
+        _ => false,
     }
 }
 
 // Hears an entry that is built: the tables and the readers go on, and what follows is noted.
 fn hear(tables: &mut Tables, readers: &mut Readers, entry: &Entry) -> Result<(), NoMemory>
     requires room { HasRoom tables.old }
-    requires whole { BreaksNone tables.old readers.old entry.now }
-    ensures ok { OnOk result ((s : State) → IsHeld s tables.old readers.old → IsHeld (after s entry.now) tables.new readers.new) }
+    requires can { CanHear tables.old readers.old entry.now }
+    ensures ok { OnOk result ((seed : ℕ) (s : State) → IsHeld seed s tables.old readers.old → IsHeld seed (after s entry.now) tables.new readers.new) }
     ensures shown { ShowsTheSame tables.old tables.new }
 {
+    hosts_are_sound();
+    streams_stand();
     match entry {
-        Entry::Call { lane, op } => tables.call(*lane, op),
+        Entry::Call { lane, op } => hear_call(tables, *lane, op),
+        Entry::Await {
+            lane,
+            name,
+            event,
+            count,
+        } => hear_await(tables, *lane, name, *event, *count),
         Entry::Spawned { worker, up } => hear_start(tables, *worker, *up),
         Entry::Chunk { worker, bytes } => hear_chunk(tables, readers, *worker, bytes.as_slice()),
         // No other entry is built.
-        _ => Ok(()),
+        Entry::Gone { .. } | Entry::Stop => Ok(()),
     }
+}
+
+// A lane has made a call.
+fn hear_call(tables: &mut Tables, lane: u32, op: &Op) -> Result<(), NoMemory>
+    requires room { HasRoom tables.old }
+    requires built { Rattle.host_core.specs.Apply.is_unbuilt_op op.now ≡ false }
+    ensures ok { OnOk result (Goes (λ s. step s (Calls lane op.now)) tables.old tables.new) }
+    ensures shown { ShowsTheSame tables.old tables.new }
+{
+    call(tables, lane, op)?;
+    tables.settle_awaits()
+}
+
+// A lane waits for notes.
+fn hear_await(
+    tables: &mut Tables,
+    lane: u32,
+    name: &Name,
+    event: Event,
+    count: u32,
+) -> Result<(), NoMemory>
+    requires { HasRoom tables.old }
+    ensures ok { OnOk result (Goes (λ s. step s (Awaits lane name.now event count)) tables.old tables.new) }
+    ensures shown { ShowsTheSame tables.old tables.new }
+{
+    tables.add_await(lane, name, event, count)?;
+    tables.settle_awaits()
 }
 
 // A start of a worker has been tried.
 fn hear_start(tables: &mut Tables, worker: WorkerKey, up: bool) -> Result<(), NoMemory>
-    ensures ok { OnOk result (Moves (λ s. after s (entry.Spawned worker up)) tables.old tables.new) }
+    ensures ok { OnOk result (Goes (λ s. after s (entry.Spawned worker up)) tables.old tables.new) }
     ensures shown { ShowsTheSame tables.old tables.new }
 {
-    if up && tables.slots.is_wanted(worker) {
-        tables.start(worker)
-    } else {
-        Ok(())
+    if !(up && tables.slots.is_wanted(worker)) {
+        return Ok(());
     }
+    tables.start(worker)?;
+    tables.settle_awaits()
 }
 
 // Bytes have come from a worker.
@@ -273,14 +320,17 @@ fn hear_chunk(
     bytes: &[u8],
 ) -> Result<(), NoMemory>
     requires { (is_up tables.old.slots.slots worker && is_broken (unread_of readers.old worker ++ bytes.now)) ≡ false }
-    ensures ok { OnOk result ((s : State) → IsHeld s tables.old readers.old → IsHeld (after s (entry.Chunk worker bytes.now)) tables.new readers.new) }
+    ensures ok { OnOk result ((seed : ℕ) (s : State) → IsHeld seed s tables.old readers.old → IsHeld seed (after s (entry.Chunk worker bytes.now)) tables.new readers.new) }
     ensures shown { ShowsTheSame tables.old tables.new }
 {
     frames_of_a_cut_stream();
+    hosts_are_sound();
+    streams_stand();
     if !tables.slots.is_up(worker) {
         return Ok(());
     }
     readers.feed(worker, bytes)?;
+    tables.settle_awaits()?;
     hear_payloads(tables, readers, worker)
 }
 
@@ -296,13 +346,23 @@ fn hear_payloads(
     ensures others { (w : WorkerKey) → same_worker worker w ≡ false → unread_of readers.new w ≡ unread_of readers.old w }
     ensures shown { ShowsTheSame tables.old tables.new }
 {
+    hosts_are_sound();
     loop {
         match readers.next_payload(worker) {
-            Ok(Some(payload)) => tables.hear(worker, payload.as_slice())?,
+            Ok(Some(payload)) => hear_said(tables, worker, payload.as_slice())?,
             Ok(None) => return Ok(()),
             Err(FrameFault::NoMemory) => return Err(NoMemory),
             // The stream doesn't break: no entry with a break is built.
             Err(_) => unreachable!(),
         }
     }
+}
+
+// A worker has said something.
+fn hear_said(tables: &mut Tables, worker: WorkerKey, payload: &[u8]) -> Result<(), NoMemory>
+    ensures ok { OnOk result (Goes (λ s. step s (Says worker (message_of payload.now))) tables.old tables.new) }
+    ensures shown { ShowsTheSame tables.old tables.new }
+{
+    hear_payload(tables, worker, payload)?;
+    tables.settle_awaits()
 }

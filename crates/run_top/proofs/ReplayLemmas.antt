@@ -10,8 +10,8 @@ use Rattle.ms_base.specs.declared.applied.ApplyFault.TheVariants as fault
 use Rattle.ms_base.specs.declared.entry.Entry.{Entry}
 use Rattle.journal_text.specs.Written.{entry_line, journal_size, max_journal, max_told}
 use Rattle.host_core.specs.Apply.{fault_of, is_unbuilt, size_with}
-use Rattle.host_core.specs.Run.{Journal, HostView, after, after_all, state_of}
-use Rattle.host_core.specs.State.{State, start}
+use Rattle.host_model.specs.Run.{Journal, HostView, after, after_all, state_of}
+use Rattle.host_model.specs.State.{State, start}
 use Rattle.run_top.specs.Replay.{first_unbuilt}
 
 -- ---- what the iterator of a vector has given is a front of its items

@@ -11,8 +11,8 @@ use Rattle.journal_text.specs.Gives.{told_line}
 use Rattle.journal_text.specs.Reading.{BadLine, reading_of}
 use Rattle.journal_text.specs.Written.{max_journal}
 use Rattle.host_core.specs.Apply.{is_unbuilt}
-use Rattle.host_core.specs.Run.{Journal, after, transcript_of}
-use Rattle.host_core.specs.State.{State, start}
+use Rattle.host_model.specs.Run.{Journal, after, transcript_of}
+use Rattle.host_model.specs.State.{State, start}
 use Rattle.run_top.specs.declared.status.TheConstants.Status.{DONE, BAD_TEXT, READ_FAILED, WRITE_FAILED, TOO_LONG, OUT_OF_MEMORY}
 
 -- ---- what a text comes to

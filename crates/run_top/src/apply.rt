@@ -1,8 +1,8 @@
 ghost use Rattle.std.specs.Prelude.{◌≡◌, ◌<◌, ◌≤◌, ◌^◌, [], IfOk, IfErr, OnOk, false, None, flat_map};
 ghost use Rattle.journal_text.specs.Written.{journal_size, max_journal};
 ghost use Rattle.transcript.specs.Lines.{note_line};
-ghost use Rattle.host_core.specs.Run.{transcript_of};
-ghost use Rattle.host_core.specs.State.{start};
+ghost use Rattle.host_model.specs.Run.{transcript_of};
+ghost use Rattle.host_model.specs.State.{start};
 ghost use Rattle.run_top.specs.Replay.{first_unbuilt};
 ghost use Rattle.run_top.specs.Applying.{IsStopped};
 

@@ -16,4 +16,6 @@ pub use top::media_top;
 pub use worker::worker_top;
 
 #[cfg(test)]
+mod stories;
+#[cfg(test)]
 mod tests;

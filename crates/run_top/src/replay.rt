@@ -4,7 +4,7 @@ ghost use Rattle.journal_text.specs.Reading.{reading_of};
 ghost use Rattle.journal_text.specs.Written.{journal_size, max_journal};
 ghost use Rattle.ms_devices.specs.Causes.{Rose};
 ghost use Rattle.ms_devices.specs.Told.{Tells, AddsPrefix};
-ghost use Rattle.host_core.specs.Run.{Journal, transcript_of};
+ghost use Rattle.host_model.specs.Run.{Journal, transcript_of};
 ghost use Rattle.run_top.specs.Answers.{IsRefusedAs};
 ghost use Rattle.run_top.specs.Replay.{IsReplay, ReadsAs, Adds, AddsBehind, bad_line_of, told_words};
 

@@ -1,7 +1,7 @@
 use Rattle.std.proofs.Common.{◌≡◌, ◌+◌, ◌++◌, ◌∷◌, [], length, Err, ap, sym, ◌∙◌, append_assoc}
 use Rattle.std.specs.Vec.Iter.{into_iter_items}
-use Rattle.host_core.specs.Run.{HostView, with_entry}
-use Rattle.host_core.specs.State.{start}
+use Rattle.host_model.specs.Run.{HostView, with_entry}
+use Rattle.host_model.specs.State.{start}
 use Rattle.run_top.specs.Replay.{first_unbuilt}
 use Rattle.run_top.proofs.ReplayLemmas.{taken_front, unbuilt-at, unbuilt-came, never-full, told-more, built-came, built-more}
 use Rattle.run_top.proofs.apply.apply_all.Goals as goal

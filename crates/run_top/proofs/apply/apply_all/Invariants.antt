@@ -1,5 +1,5 @@
 use Rattle.std.proofs.Common.{◌≡◌, ◌+◌, length, None}
-use Rattle.host_core.specs.State.{start}
+use Rattle.host_model.specs.State.{start}
 use Rattle.journal_text.specs.Gives.{told_line}
 use Rattle.run_top.specs.Replay.{first_unbuilt}
 use Rattle.run_top.proofs.ReplayLemmas.{heard}
