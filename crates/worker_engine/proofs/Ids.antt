@@ -1,6 +1,5 @@
 -- Objects that are looked up by their ids, where no two have the same.
-use Rattle.std.proofs.Common.{◌≡◌, ℕ, zero, suc, List, [], ◌∷◌, ◌++◌, Bool, true, false, cond, map, filter, Option, Some, None, is_some, option_map, refl, sym, ap, subst, ◌∙◌, bytes_eq, slice_get}
-use Rattle.std.specs.Prelude.{IfSome}
+use Rattle.std.proofs.Common.{◌≡◌, ℕ, List, [], ◌∷◌, ◌++◌, Bool, true, false, cond, map, Option, Some, option_map, refl, sym, ap, subst, ◌∙◌, bytes_eq}
 use Rattle.std.specs.List.{find, AllByRecursion, IsDistinct}
 use Rattle.std.specs.Cmp.Lexicographic.{bytes_decides, nat_list_eq_equiv}
 use Rattle.std.proofs.lemmas.List.{map-append}
@@ -149,32 +148,3 @@ module _ {A : Type 0} (id : A → Id) where
   change-same f g i [] y d s e = refl
   change-same f g i (x ∷ xs) y d s e =
       change-by f g i (same_id (id x) i) x xs y refl d e (λ r. change-same f g i xs y (rest-differs x xs d) r e) s
-
--- ---- by a place
-
-is-some-more : {A : Type 0} (b : Bool) (x : A) (o : Option A) → is_some o ≡ true → is_some (cond b (Some x) o) ≡ true
-is-some-more true x o s = refl
-is-some-more false x o s = s
-
-if-some : {A : Type 0} (P Q : A → Type 0) → ((x : A) → P x → Q x) → (o : Option A) → IfSome o P → IfSome o Q
-if-some P Q so None h = tt
-if-some P Q so (Some x) h = so x h
-
-module _ {A : Type 0} (id : A → Id) (p : A → Bool) where
-  abbrev Found : List A → Option A → Type 0
-  Found xs o = IfSome o (λ x. is_some (find (λ y. same_id (id y) (id x)) xs) ≡ true)
-
-  placed-by : (b : Bool) (x : A) (xs : List A) (place : ℕ) → ((i : ℕ) → Found xs (slice_get (filter p xs) i)) → Found (x ∷ xs) (slice_get (cond b (x ∷ filter p xs) (filter p xs)) place)
-  placed-by true x xs zero rest = ap (λ b. is_some (cond b (Some x) (find (λ y. same_id (id y) (id x)) xs))) (same-refl (id x))
-  placed-by true x xs (suc i) rest =
-      if-some (λ z. is_some (find (λ y. same_id (id y) (id z)) xs) ≡ true) (λ z. is_some (find (λ y. same_id (id y) (id z)) (x ∷ xs)) ≡ true)
-      (λ z h. is-some-more (same_id (id x) (id z)) x (find (λ y. same_id (id y) (id z)) xs) h) (slice_get (filter p xs) i) (rest i)
-  placed-by false x xs i rest =
-      if-some (λ z. is_some (find (λ y. same_id (id y) (id z)) xs) ≡ true) (λ z. is_some (find (λ y. same_id (id y) (id z)) (x ∷ xs)) ≡ true)
-      (λ z h. is-some-more (same_id (id x) (id z)) x (find (λ y. same_id (id y) (id z)) xs) h) (slice_get (filter p xs) i) (rest i)
-
-  -- what stands at a place of a part is found by its id
-  pub placed : (xs : List A) (place : ℕ) → Found xs (slice_get (filter p xs) place)
-  placed [] zero = tt
-  placed [] (suc i) = tt
-  placed (x ∷ xs) i = placed-by (p x) x xs i (placed xs)

@@ -1,18 +1,16 @@
 -- What a Producer receives of a packet is served.
-use Rattle.std.proofs.Common.{◌≡◌, ℕ, List, Bool, true, false, cond, ◌&&◌, Option, Some, None, is_some, option_map, option_and_then, refl, sym, ap, subst, ◌∙◌, length, slice_get}
-use Rattle.std.specs.Prelude.{nat_le, IfSome}
-use Rattle.std.specs.List.{find}
+use Rattle.std.proofs.Common.{◌≡◌, ℕ, List, Bool, true, false, cond, ◌&&◌, Option, Some, None, is_some, option_map, option_and_then, refl, sym, ap, subst, ◌∙◌, length}
+use Rattle.std.specs.Prelude.{nat_le}
 use Rattle.ms_base.specs.declared.id.Id.{Id}
 use Rattle.rtp_packet.specs.Packet.{Fields}
 use Rattle.rtp_extension.specs.declared.mapped.Mapped.{Mapped}
-use Rattle.worker_router.specs.State.{RouterState, Source, Sink, same_id, producer_of, consumer_of, consumers_of, is_on, is_of}
-use Rattle.worker_router.specs.Calls.{receives, receiver, consumer_at}
+use Rattle.worker_router.specs.State.{Source, Sink, same_id, producer_of, is_on}
+use Rattle.worker_router.specs.Calls.{receives, receiver}
 use Rattle.worker_calls.specs.declared.place.Place.{Place}
 use Rattle.worker_calls.specs.State.{Worker, RouterAt, ProducerKey, router_of}
-use Rattle.worker_calls.specs.Plans.{at}
 use Rattle.worker_engine.specs.Packets.{Received, max_packet, if_within, received_as, received_at_place, received_by_key}
 use Rattle.worker_engine.specs.Forwarding.{Incoming, Serves}
-use Rattle.worker_engine.proofs.Ids.{same-is, found-passes, found-by-id, placed, Differ}
+use Rattle.worker_engine.proofs.Ids.{same-is, found-passes, found-by-id, Differ}
 use Rattle.worker_engine.proofs.Serving.{received-serves}
 
 within-by : (w : Worker) (b : Bool) (got : Option Received) (i : Option Incoming) → Serves w got i → Serves w (cond b got None) (cond b i None)
@@ -89,22 +87,6 @@ module _ (w : Worker) (r : RouterAt) (k : Id) (packet : List ℕ) (f : Fields) (
       ap (option_and_then (λ (x : ProducerKey). received_by_key w packet x f)) e
       ∙ ap (option_and_then (λ (x : RouterAt). option_and_then (received_as k packet f) (producer_of x.router producer))) is in
       subst (λ (o : Option Received). Serves w (if_within packet o) i) (sym got) (subst (Serves w (if_within packet (option_and_then (received_as k packet f) (producer_of r.router producer)))) (sym made) known-serves)
-
--- ---- the Consumer at a place
-
-module _ (r : RouterState) (producer : Id) (place : ℕ) where
-  target-by : (s : Option Sink) → IfSome s (λ c. is_some (find (λ (y : Sink). same_id y.id c.id) r.consumers) ≡ true)
-      → IfSome {T = Id × Id} (option_map (λ (c : Sink). (c.id, c.transport)) s) (λ to. is_some (consumer_of r to.0) ≡ true)
-  target-by None h = tt
-  target-by (Some c) h = h
-
-  -- stands there by its id too
-  pub target-there : (k : Id) (o : Option RouterAt) (result : Option (Id × Id)) → Some (at k r) ≡ o → result ≡ consumer_at r producer place
-      → IfSome result (λ to. is_some (option_and_then (λ x. consumer_of x.router to.0) o) ≡ true)
-  target-there k o result found is =
-      subst (λ (p : Option RouterAt). IfSome result (λ to. is_some (option_and_then (λ (x : RouterAt). consumer_of x.router to.0) p) ≡ true)) found
-      (subst (λ (s : Option (Id × Id)). IfSome s (λ to. is_some (consumer_of r to.0) ≡ true)) (sym is)
-      (target-by (slice_get (consumers_of r producer) place) (placed (λ (c : Sink). c.id) (is_of producer) r.consumers place)))
 
 -- the key of what was found by an id
 pub key-is : (found : Id × Id) (o : Option ProducerKey) → Some found ≡ option_map (λ (key : ProducerKey). (key.router, key.producer)) o

@@ -1,5 +1,5 @@
 -- A packet on its way through a worker, step by step. This project's own.
-use Rattle.std.specs.Prelude.{◌≡◌, ℕ, ◌<◌, ◌≤◌, List, [], ◌∷◌, length, map, Option, Some, None, option_map, option_and_then}
+use Rattle.std.specs.Prelude.{◌≡◌, ℕ, ◌<◌, ◌≤◌, List, [], ◌∷◌, length, map, take, Option, Some, None, option_map, option_and_then}
 use Rattle.std.specs.List.{cons_option}
 use Rattle.rtp_packet.specs.Packet.{Fields, IsPacket}
 use Rattle.rtp_extension.specs.declared.mapped.Mapped.{Mapped}
@@ -8,6 +8,7 @@ use Rattle.ms_base.specs.declared.tuple.Tuple.{Tuple}
 use Rattle.channel_msgs.specs.Packet.{packet_payload}
 use Rattle.worker_router.specs.State.{consumers_of}
 use Rattle.worker_router.specs.Calls.{remote_at, passed_for, behind_pass}
+use Rattle.worker_router.specs.declared.packets.Passed.{Passed}
 use Rattle.worker_calls.specs.declared.place.Place.{Place}
 use Rattle.worker_calls.specs.State.{Worker, RouterAt, router_of, link_of, change_router}
 use Rattle.worker_calls.specs.Requests.{Outgoing, say, send}
@@ -108,8 +109,13 @@ abbrev pub outgoing_by : Option (ℕ × Tuple) → Id → List ℕ → Outgoing
 outgoing_by (Some end) id packet = send end.0 end.1 packet
 outgoing_by None id packet = say (packet_payload id packet)
 
-abbrev pub end_of : Worker → Place → Option (ℕ × Tuple)
-end_of w at = both (option_map (λ l. l.link) (link_of w at)) (remote_in w at)
+abbrev pub end_of : Worker → Place → Option Tuple → Option (ℕ × Tuple)
+end_of w at remote = both (option_map (λ l. l.link) (link_of w at)) remote
+
+-- what goes out for a Consumer that has passed on the front of these bytes, if it did
+abbrev pub sent_of : Worker → Id → Passed → List ℕ → Option Outgoing
+sent_of w router p bytes =
+    option_map (λ n. outgoing_to (option_map (λ l. l.link) (link_of w (record { router = router; transport = p.transport }))) p.remote p.consumer (take n bytes)) p.length
 
 abbrev pub listed : {A : Type 0} → Option A → List A
 listed None = []

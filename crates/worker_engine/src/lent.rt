@@ -1,15 +1,14 @@
 //! What a packet does in one Router of a worker.
 
-ghost use Rattle.std.specs.Prelude.{◌≡◌, ◌≤◌, length, take, is_some, true, option_map, option_and_then, IfSome};
-ghost use Rattle.worker_router.specs.State.{consumer_of};
-ghost use Rattle.worker_calls.specs.State.{router_of};
-ghost use Rattle.worker_engine.specs.Forwarding.{behind_one, passed_one};
+ghost use Rattle.std.specs.Prelude.{◌≡◌, ◌≤◌, ◌<◌, ◌+◌, ◌^◌, length, take, slice_get, option_map, IfSome, IfNone};
+ghost use Rattle.worker_engine.specs.Forwarding.{behind_one, passed_one, remote_in, targets};
 ghost use Rattle.worker_engine.specs.Packets.{max_packet, accept_in, heard_at};
 
 use crate::incoming::Incoming;
 use ms_base::{Id, Tuple};
 use plain_transport::Accept;
 use worker_calls::{Place, Worker};
+use worker_router::Passed;
 
 /// Whether a transport takes what comes from a tuple; it may learn the tuple by it. `None` comes exactly where there is
 /// no such transport.
@@ -22,23 +21,28 @@ pub(crate) fn accept(worker: &mut Worker, at: Place, from: Tuple) -> Option<Acce
     router.accepts(at.transport, from).ok()
 }
 
-/// Writes what one Consumer passes on of the packet, if it does, over the front of `into`, and gives its length.
-pub(crate) fn pass_on(
+/// Gives the Consumer at a place among those of the Producer the packet, and writes what it passes on, if it does, over
+/// the front of `into`. `None` comes exactly where there is no such place.
+pub(crate) fn pass_to(
     worker: &mut Worker,
     incoming: &Incoming<'_>,
-    consumer: Id,
+    place: usize,
     into: &mut [u8],
-) -> Option<usize>
-    requires there { is_some (option_and_then (λ r. consumer_of r.router consumer) (router_of worker.old incoming.now.router)) ≡ true }
+) -> Option<Passed>
     requires room { max_packet ≤ length into.old }
-    ensures packet { option_map (λ n. take n into.new) result ≡ passed_one incoming.now consumer worker.old }
-    ensures state { worker.new ≡ behind_one incoming.now consumer worker.old }
-    ensures limit { IfSome result (λ n. n ≤ max_packet) }
+    ensures to { option_map (λ p. (p.consumer, p.transport)) result ≡ slice_get (targets incoming.now worker.old) place }
+    ensures remote { IfSome result (λ p. p.remote ≡ remote_in worker.old (record { router = incoming.now.router; transport = p.transport })) }
+    ensures packet { IfSome result (λ p. option_map (λ n. take n into.new) p.length ≡ passed_one incoming.now p.consumer worker.old) }
+    ensures state { IfSome result (λ p. worker.new ≡ behind_one incoming.now p.consumer worker.old) }
+    ensures none { IfNone result (worker.new ≡ worker.old) }
+    ensures limit { IfSome result (λ p. IfSome p.length (λ n. n ≤ max_packet)) }
+    ensures more { IfSome result (λ _. place + 1 < 2 ^ 64) }
 {
     worker.routers_differ();
     let router = worker.router_mut(incoming.router)?;
-    router.pass_view(
-        consumer,
+    router.pass_to(
+        incoming.producer,
+        place,
         incoming.mapped,
         incoming.view,
         incoming.packet,

@@ -1,5 +1,6 @@
 mod ByIdLemmas
 mod ListLemmas
+mod PlaceLemmas
 mod PassLemmas
 mod TableLemmas
 mod RouterLemmas

@@ -1,5 +1,5 @@
 -- What is looked up in a Router.
-use Rattle.std.proofs.Common.{◌≡◌, ℕ, List, [], ◌∷◌, ◌&&◌, ◌||◌, Bool, true, false, cond, not, map, filter, find, slice_get, Option, Some, None, Result, is_some, bytes_eq, refl, sym, ap, subst, ◌∙◌, true≢false}
+use Rattle.std.proofs.Common.{◌≡◌, ℕ, zero, suc, List, [], ◌∷◌, ◌&&◌, ◌||◌, Bool, true, false, cond, not, map, filter, find, slice_get, Option, Some, None, Result, is_some, bytes_eq, refl, sym, ap, subst, ◌∙◌, true≢false}
 use Rattle.std.specs.List.{AllByRecursion, IsDistinct, list_any}
 use Rattle.std.specs.Option.{option_map, option_and_then}
 use Rattle.std.proofs.lemmas.Option.{slice_get-map}
@@ -17,9 +17,9 @@ use Rattle.pipe_consumer.specs.Streams.{passed_by}
 use Rattle.worker_router.specs.Calls.{after_offer, behind_pass, change, clashes, comes_by, consumer_at, first_flags, offered, passed_for, receiver, receives}
 use Rattle.worker_router.specs.declared.fault.RouterFault.{RouterFault}
 use Rattle.worker_router.specs.declared.fault.RouterFault.TheVariants as fault
-use Rattle.worker_router.specs.Tables.{AreDifferent, AreTables, FeedView, Outlet, Outline, checked, checked_with, id_of, ids_in, is_listed, outlet_of, offered_by, outline_of, owner_in, owns, places_of, present, router_of}
+use Rattle.worker_router.specs.Tables.{AreDifferent, AreTables, FeedView, Outlet, Outline, checked, checked_with, id_of, ids_in, is_listed, outlet_of, outline_of, owner_in, owns, places_of, present, router_of}
 use Rattle.worker_router.proofs.ByIdLemmas.{same-bytes}
-use Rattle.worker_router.proofs.ListLemmas.{change-by, differ-filter, kept-present, map-map, map-filter, find-map, is-some-map, present-map, all-over, all-under, all-map, any-find, find-test, guard, guarded, find-by, is}
+use Rattle.worker_router.proofs.ListLemmas.{all-kept, founds, change-by, differ-filter, kept-present, map-map, map-filter, find-map, is-some-map, present-map, all-over, all-under, all-map, any-find, find-test, guard, guarded, find-by, is}
 use Rattle.worker_router.proofs.TableLemmas.{and-join, and-split, cid, is_fed, no-map, none-fed, owner-is, pid, place}
 
 abbrev pub fid : FeedView → Id
@@ -88,17 +88,21 @@ feeds-differ fs d = subst (IsDistinct bytes_eq) (map-map outline_of (λ (p : Out
 pub id-same : (a b : Id) → same_id a b ≡ true → a ≡ b
 id-same a b h = ap id_of (same-bytes a.0 b.0 h)
 
-pub change-same : {X : Type 0} (t : X → Bool) (f g : X → X) → ((x : X) → f x ≡ g x) → (xs : List X) → change t f xs ≡ change t g xs
-change-same t f g same [] = refl
-change-same t f g same (x ∷ xs) = let here = same x in let rest = change-same t f g same xs in (λ j. cond (t x) (here j) x ∷ rest j)
+-- a change of those that pass a test looks at these alone
+change-same : {X : Type 0} (t : X → Bool) (f g : X → X) (xs : List X) → AllByRecursion (λ x. t x ≡ true → f x ≡ g x) xs → change t f xs ≡ change t g xs
+change-same t f g [] same = refl
+change-same t f g (x ∷ xs) same = let here = one (t x) refl in let rest = change-same t f g xs same.1 in (λ j. here j ∷ rest j)
+  where
+    one : (b : Bool) → t x ≡ b → cond (t x) (f x) x ≡ cond (t x) (g x) x
+    one true e = ap (λ y. cond (t x) y x) (same.0 e)
+    one false e = ap (λ b. cond b (f x) x) e ∙ sym (ap (λ b. cond b (g x) x) e)
 
-map-offer : (m : Mapped) (packet : List ℕ) (o : Option FeedView) → option_map (λ (f : FeedView). offer m f.source.stream.ids packet) o ≡ option_map (λ (p : Source). offer m p.stream.ids packet) (option_map source o)
-map-offer m packet None = refl
-map-offer m packet (Some f) = refl
-
-then-same : {X Y : Type 0} (f g : X → Option Y) → ((x : X) → f x ≡ g x) → (o : Option X) → option_and_then f o ≡ option_and_then g o
-then-same f g same None = refl
-then-same f g same (Some x) = same x
+-- what holds of each holds of the one at a place
+all-at : {X : Type 0} (P : X → Type 0) (xs : List X) (n : ℕ) (x : X) → AllByRecursion P xs → slice_get xs n ≡ Some x → P x
+all-at P [] zero x h e = absurd (true≢false (sym (ap is_some e)))
+all-at P [] (suc n) x h e = absurd (true≢false (sym (ap is_some e)))
+all-at P (y ∷ xs) zero x h e = let this : y ≡ x = cc in subst P this h.0
+all-at P (y ∷ xs) (suc n) x h e = all-at P xs n x h.1 e
 
 -- ---- the Producer of a packet
 
@@ -188,26 +192,6 @@ module _ (r : RouterState) (ts : List TransportAt) (fs : List FeedView) (cs : Li
   pub source-there : (id : Id) → is_some (find (λ f. same_id f.source.id id) fs) ≡ is_some (producer_of r id)
   source-there id = sym (is-some-map source (find (λ f. same_id f.source.id id) fs)) ∙ ap is_some (source-at id)
 
-  -- what a Consumer is offered
-  offered-at : (m : Mapped) (packet : List ℕ) (s : Sink) → offered_by fs s m packet ≡ offered (router_of ts fs cs) s m packet
-  offered-at m packet s =
-      map-offer m packet (find (λ f. same_id f.source.id s.producer) fs)
-      ∙ ap (option_map (λ (p : Source). offer m p.stream.ids packet)) (sym (find-map source (λ p. same_id p.id s.producer) fs))
-
-  pub passed-at : (id : Id) (m : Mapped) (packet : List ℕ)
-      → option_and_then (λ (s : Sink). option_and_then (passed_by s.streams) (offered_by fs s m packet)) (find (λ s. same_id s.id id) cs) ≡ passed_for r id m packet
-  passed-at id m packet =
-      then-same (λ (s : Sink). option_and_then (passed_by s.streams) (offered_by fs s m packet)) (λ s. option_and_then (passed_by s.streams) (offered (router_of ts fs cs) s m packet))
-      (λ s. ap (option_and_then (passed_by s.streams)) (offered-at m packet s)) (find (λ s. same_id s.id id) cs)
-      ∙ ap (λ (q : RouterState). passed_for q id m packet) whole
-
-  pub behind-pass : (id : Id) (m : Mapped) (packet : List ℕ) (new : List Sink) → new ≡ change (λ s. same_id s.id id) (λ s. after_offer (offered_by fs s m packet) s) cs
-      → router_of ts fs new ≡ behind_pass r id m packet
-  behind-pass id m packet new put =
-      ap (router_of ts fs) (put ∙ change-same (λ s. same_id s.id id) (λ s. after_offer (offered_by fs s m packet) s) (λ s. after_offer (offered (router_of ts fs cs) s m packet) s)
-      (λ s. ap (λ o. after_offer o s) (offered-at m packet s)) cs)
-      ∙ ap (λ (q : RouterState). behind_pass q id m packet) whole
-
   module _ (own : List ((List ℕ × ℕ) × List ℕ)) (t : AreTables (map outline_of fs) (map outlet_of cs) own) where
     -- the list of a Producer that is found
     pub feed-list : (id : Id) (f : FeedView) → find (λ g. same_id g.source.id id) fs ≡ Some f → f.consumers ≡ places_of (map outlet_of cs) id
@@ -240,6 +224,63 @@ module _ (r : RouterState) (ts : List TransportAt) (fs : List FeedView) (cs : Li
         list-at-all id at (find (λ g. same_id g.source.id id) fs) refl
         ∙ (ap (λ l. slice_get l at) (places-are cs id)
         ∙ (slice_get-map (λ (c : Sink). (c.id, c.transport)) (filter (is_of id) cs) at ∙ ap (λ (q : RouterState). consumer_at q id at) whole))
+
+    sinks-differ : AreDifferent (λ (c : Sink). c.id) cs
+    sinks-differ = subst (IsDistinct bytes_eq) (map-map outlet_of (λ (o : Outlet). o.id.0) cs) t.consumers_differ
+
+    -- what stands at a place of a Producer's list is one of its Consumers
+    abbrev pub IsTo : Id → Id → Type 0
+    IsTo id to = (c : Sink) × (find (λ s. same_id s.id to) cs ≡ Some c) × (c.producer ≡ id)
+
+    module _ (id : Id) (f : FeedView) (found : find (λ g. same_id g.source.id id) fs ≡ Some f) (at : ℕ) (to : Id × Id) (there : slice_get f.consumers at ≡ Some to) where
+      to-by : (o : Option Sink) → slice_get (filter (is_of id) cs) at ≡ o → option_map (λ (c : Sink). (c.id, c.transport)) o ≡ Some to → IsTo id to.0
+      to-by None e same = absurd (true≢false (sym (ap is_some same)))
+      to-by (Some c) e same =
+          let here : (c.id, c.transport) ≡ to = cc in
+          let kept : (find (λ s. same_id s.id c.id) cs ≡ Some c) × (is_of id c ≡ true) =
+          all-at (λ x. (find (λ s. same_id s.id x.id) cs ≡ Some x) × (is_of id x ≡ true)) (filter (is_of id) cs) at c
+          (all-kept (λ x. (find (λ s. same_id s.id x.id) cs ≡ Some x) × (is_of id x ≡ true)) (is_of id) cs
+          (all-map (λ x. find (λ s. same_id s.id x.id) cs ≡ Some x) (λ x. is_of id x ≡ true → (find (λ s. same_id s.id x.id) cs ≡ Some x) × (is_of id x ≡ true))
+          (λ x by-id mine. (by-id, mine)) cs (founds (λ (c : Sink). c.id) cs sinks-differ))) e in
+          (c, ap (λ (p : Id × Id). find (λ (s : Sink). same_id s.id p.0) cs) (sym here) ∙ kept.0, id-same c.producer id kept.1)
+
+      pub to-is : IsTo id to.0
+      to-is = to-by (slice_get (filter (is_of id) cs) at) refl
+          (sym (slice_get-map (λ (c : Sink). (c.id, c.transport)) (filter (is_of id) cs) at) ∙ (ap (λ l. slice_get l at) (sym (feed-list id f found ∙ places-are cs id)) ∙ there))
+
+    -- the Producer of a Consumer is there
+    pub fed-there : (id : Id) (c : Sink) → find (λ s. same_id s.id id) cs ≡ Some c → find (λ g. same_id g.source.id c.producer) fs ≡ None → ⊥
+    fed-there id c e none =
+        let fed = all-found (λ (x : Sink). present pid (map outline_of fs) x.producer ≡ true) (λ s. same_id s.id id) cs c (all-over outlet_of (λ o. present pid (map outline_of fs) o.producer ≡ true) cs t.sources) e in
+        true≢false (sym (sym (ap is_some none) ∙ sym (present-map outline_of pid fs c.producer) ∙ fed))
+
+    module _ (id : Id) (f : FeedView) (found : find (λ g. same_id g.source.id id) fs ≡ Some f) (to : Id) (c : IsTo id to) (m : Mapped) (packet : List ℕ) where
+      -- it is offered the packet with the ids of this Producer
+      offered-to : (c : Sink) → c.producer ≡ id → offered (router_of ts fs cs) c m packet ≡ Some (offer m f.source.stream.ids packet)
+      offered-to c same =
+          ap (λ i. option_map (λ (p : Source). offer m p.stream.ids packet) (find (λ p. same_id p.id i) (map source fs))) same
+          ∙ ap (option_map (λ (p : Source). offer m p.stream.ids packet)) (find-map source (λ p. same_id p.id id) fs ∙ ap (option_map source) found)
+
+      pub passed-to : option_and_then (λ (s : Sink). passed_by s.streams (offer m f.source.stream.ids packet)) (find (λ s. same_id s.id to) cs) ≡ passed_for r to m packet
+      passed-to =
+          ap (option_and_then (λ (s : Sink). passed_by s.streams (offer m f.source.stream.ids packet))) c.1
+          ∙ (ap (option_and_then (passed_by c.0.streams)) (sym (offered-to c.0 c.2))
+          ∙ (ap (option_and_then (λ (s : Sink). option_and_then (passed_by s.streams) (offered (router_of ts fs cs) s m packet))) (sym c.1)
+          ∙ ap (λ (q : RouterState). passed_for q to m packet) whole))
+
+      only-to : AllByRecursion (λ s. same_id s.id to ≡ true → after_offer (Some (offer m f.source.stream.ids packet)) s ≡ after_offer (offered (router_of ts fs cs) s m packet) s) cs
+      only-to =
+          all-map (λ s. find (λ x. same_id x.id s.id) cs ≡ Some s)
+          (λ s. same_id s.id to ≡ true → after_offer (Some (offer m f.source.stream.ids packet)) s ≡ after_offer (offered (router_of ts fs cs) s m packet) s)
+          (λ s by-id mine.
+          let this : Some s ≡ Some c.0 = sym by-id ∙ (ap (λ i. find (λ (x : Sink). same_id x.id i) cs) (id-same s.id to mine) ∙ c.1) in
+          let same : s ≡ c.0 = cc in
+          sym (ap (λ o. after_offer o s) (offered-to s (ap (λ (x : Sink). x.producer) same ∙ c.2)))) cs (founds (λ (x : Sink). x.id) cs sinks-differ)
+
+      pub behind-to : (new : List Sink) → new ≡ change (λ s. same_id s.id to) (after_offer (Some (offer m f.source.stream.ids packet))) cs → router_of ts fs new ≡ behind_pass r to m packet
+      behind-to new put =
+          ap (router_of ts fs) (put ∙ change-same (λ s. same_id s.id to) (after_offer (Some (offer m f.source.stream.ids packet))) (λ s. after_offer (offered (router_of ts fs cs) s m packet) s) cs only-to)
+          ∙ ap (λ (q : RouterState). behind_pass q to m packet) whole
 
     -- the ids of its Consumers
     pub ids-of : (id : Id) (f : FeedView) → find (λ g. same_id g.source.id id) fs ≡ Some f → map (λ at. at.0) f.consumers ≡ map (λ (c : Sink). c.id) (filter (is_of id) r.consumers)

@@ -5,10 +5,9 @@ use Rattle.std.specs.HashMap as hash_map
 use Rattle.std.specs.HashMap.{HashMap}
 use Rattle.std.specs.Map.{lookup}
 use Rattle.ms_base.specs.declared.id.Id.{Id}
-use Rattle.rtp_extension.specs.declared.mapped.Mapped.{Mapped}
 use Rattle.rtp_params.specs.declared.encoding.Encoding.{Encoding}
 use Rattle.rtp_params.specs.Encodings.{is_own}
-use Rattle.simple_consumer.specs.Sending.{Offer, Sending, offer}
+use Rattle.simple_consumer.specs.Sending.{Sending}
 use Rattle.worker_router.specs.Calls.{without}
 use Rattle.worker_router.specs.State.{RouterState, Source, Sink, TransportAt, same_id}
 use Rattle.worker_router.specs.declared.fault.RouterFault.{RouterFault}
@@ -80,10 +79,6 @@ detached id f = record f { consumers = without (λ place. same_id place.0 id) f.
 -- with those Consumers alone that are there
 abbrev pub with_present : List Sink → FeedView → FeedView
 with_present consumers f = record f { consumers = filter (λ place. present (λ c. c.id) consumers place.0) f.consumers }
-
--- a packet that a Consumer is offered, with the ids of its Producer
-abbrev pub offered_by : List FeedView → Sink → Mapped → List ℕ → Option Offer
-offered_by feeds c m packet = option_map (λ f. offer m f.source.stream.ids packet) (find (λ f. same_id f.source.id c.producer) feeds)
 
 abbrev pub router_of : List TransportAt → List FeedView → List Sink → RouterState
 router_of transports feeds consumers = record { transports = transports; producers = map (λ f. f.source) feeds; consumers = consumers }

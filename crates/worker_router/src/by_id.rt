@@ -1,6 +1,6 @@
 //! Objects by their ids.
 
-ghost use Rattle.std.specs.Prelude.{◌≡◌, ◌∷◌, ◌++◌, [], false, find, is_some, OnOk, OnErr, option_copied};
+ghost use Rattle.std.specs.Prelude.{◌≡◌, ◌∷◌, ◌++◌, [], false, find, is_some, slice_get, OnOk, OnErr, option_and_then, option_copied};
 ghost use Rattle.worker_router.specs.State.{same_id};
 ghost use Rattle.worker_router.specs.Calls.{without};
 ghost use Rattle.worker_router.specs.Tables.{AreDifferent};
@@ -53,6 +53,28 @@ impl<T: HasId> ById<T> {
         ensures { option_copied result ≡ find (λ x. same_id (T.id_of x) id) self.now }
     {
         self.items.get(&id.0)
+    }
+
+    /// Where the object of this id stands, if it is there. It is looked for at a place first.
+    pub(crate) fn index_of(&self, id: Id, first: usize) -> Option<usize>
+        ensures { option_and_then (slice_get self.now) result ≡ find (λ x. same_id (T.id_of x) id) self.now }
+    {
+        if let Some((key, _object)) = self.items.get_index(first) {
+            if *key == id.0 {
+                return Some(first);
+            }
+        }
+        self.items.get_index_of(&id.0)
+    }
+
+    /// The object of this id, which is looked for at a place first: that is then where it stands.
+    pub(crate) fn get_near(&self, id: Id, place: &mut usize) -> Option<&T>
+        ensures { option_copied result ≡ find (λ x. same_id (T.id_of x) id) self.now }
+    {
+        let index = self.index_of(id, *place)?;
+        *place = index;
+        let (_key, object) = self.items.get_index(index)?;
+        Some(object)
     }
 
     /// Whether one has this id.

@@ -8,13 +8,14 @@ ghost use Rattle.simple_consumer.specs.Sending.{offer};
 ghost use Rattle.pipe_consumer.specs.Streams.{passed_by};
 ghost use Rattle.worker_router.specs.State.{same_id, goes_over, is_of};
 ghost use Rattle.worker_router.specs.Calls.{after_offer, change, connect_one, pause_one, pause_source_of, without};
-ghost use Rattle.worker_router.specs.Tables.{AreDifferent, ids_in, is_listed, outlet_of, present, offered_by};
+ghost use Rattle.worker_router.specs.Tables.{AreDifferent, ids_in, is_listed, outlet_of, present};
 
 use crate::by_id::ById;
 use crate::consumer::Consumer;
 use crate::feed::Feed;
+use crate::listed::Listed;
 use ms_base::Id;
-use rtp_extension::Mapped;
+use rtp_extension::{IdMap, Mapped};
 use rtp_packet::View;
 
 impl ById<Consumer> {
@@ -43,13 +44,13 @@ impl ById<Consumer> {
     }
 
     /// Tells those of a Producer, which stand in its list, that it is paused or not.
-    pub(crate) fn pause_sources(&mut self, own: &[(Id, Id)], paused: bool)
+    pub(crate) fn pause_sources(&mut self, own: &[Listed], paused: bool)
         requires { IsDistinct bytes_eq (ids_in own.now) }
         ensures state { self.new ≡ change (is_listed own.now) (pause_source_of paused) self.old }
         ensures outlets { map outlet_of self.new ≡ map outlet_of self.old }
     {
-        for place in own {
-            self.pause_source(place.0, paused);
+        for listed in own {
+            self.pause_source(listed.consumer(), paused);
         }
     }
 
@@ -90,13 +91,14 @@ impl ById<Consumer> {
             .retain(|_key, consumer| producers.has(consumer.producer()));
     }
 
-    /// Writes what the Consumer of this id sends on of a packet that was read, as [`Consumer::pass`] does with the ids of
-    /// its Producer.
+    /// Writes what the Consumer of this id sends on of a packet that was read, as [`Consumer::pass`] does, if it is there.
+    /// It is looked for at a place first: that is then where it stands.
     pub(crate) fn pass(
         &mut self,
         id: Id,
-        producers: &ById<Feed>,
+        place: &mut usize,
         mapped: Mapped,
+        ids: &IdMap,
         view: &View<'_>,
         packet: &[u8],
         into: &mut [u8],
@@ -105,19 +107,20 @@ impl ById<Consumer> {
         requires payload_type { mapped.payload_type < 128 }
         requires room { length packet.now ≤ length into.old }
         ensures packet { option_map (λ n. take n into.new) result
-            ≡ option_and_then (λ c. option_and_then (passed_by c.streams) (offered_by producers.now c mapped packet.now)) (find (λ c. same_id c.id id) self.old) }
-        ensures state { self.new ≡ change (λ c. same_id c.id id) (λ c. after_offer (offered_by producers.now c mapped packet.now) c) self.old }
+            ≡ option_and_then (λ c. passed_by c.streams (offer mapped ids.now packet.now)) (find (λ c. same_id c.id id) self.old) }
+        ensures state { self.new ≡ change (λ c. same_id c.id id) (after_offer (Some (offer mapped ids.now packet.now))) self.old }
         ensures outlets { map outlet_of self.new ≡ map outlet_of self.old }
         ensures no_longer { IfSome result (λ n. n ≤ length packet.now) }
         ensures rest { IfSome result (λ n. drop n into.new ≡ drop n into.old) }
         ensures untouched { IfNone result (into.new ≡ into.old) }
     {
-        let Some(consumer) = self.items.get_mut(&id.0) else {
+        let Some(index) = self.index_of(id, *place) else {
             return None;
         };
-        let Some(feed) = producers.get(consumer.producer()) else {
+        *place = index;
+        let Some(consumer) = self.items.get_index_mut(index) else {
             return None;
         };
-        consumer.pass(mapped, feed.ids(), view, packet, into)
+        consumer.pass(mapped, ids, view, packet, into)
     }
 }

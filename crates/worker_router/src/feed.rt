@@ -1,6 +1,6 @@
 //! A Producer with its Consumers.
 
-ghost use Rattle.std.specs.Prelude.{◌≡◌, ◌∷◌, ◌++◌, [], map, filter, find, is_some, slice_get, ◌<◌, ◌≤◌, ◌+◌, ◌^◌, OnOk, OnErr, IfOk, IfSome};
+ghost use Rattle.std.specs.Prelude.{◌≡◌, ◌∷◌, ◌++◌, [], map, filter, find, is_some, slice_get, option_copied, ◌<◌, ◌≤◌, ◌+◌, ◌^◌, OnOk, OnErr, IfOk, IfSome};
 ghost use Rattle.producer.specs.Received.{received};
 ghost use Rattle.rtp_params.specs.Readable.{Each};
 ghost use Rattle.worker_router.specs.State.{same_id};
@@ -9,6 +9,7 @@ ghost use Rattle.worker_router.specs.Tables.{detached, with_present};
 
 use crate::by_id::{ById, HasId};
 use crate::consumer::Consumer;
+use crate::listed::{Listed, Stands};
 use ms_base::{Id, NoMemory};
 use producer::Producer;
 use rtp_extension::{IdMap, Mapped};
@@ -22,8 +23,8 @@ pub(crate) struct Feed {
     id: Id,
     transport: Id,
     producer: Producer,
-    /// The ids of the Consumers, in order of making, each with that of its transport.
-    consumers: Vec<(Id, Id)>,
+    /// The Consumers, in order of making.
+    consumers: Vec<Listed>,
 }
 
 impl Model for Feed {
@@ -93,15 +94,24 @@ impl Feed {
     }
 
     /// The Consumer at a place, with its transport.
-    pub(crate) fn consumer_at(&self, place: usize) -> Option<(Id, Id)>
-        ensures value { result ≡ slice_get self.now.consumers place }
+    pub(crate) fn consumer_at(&self, place: usize) -> Option<&Listed>
+        ensures value { option_copied result ≡ slice_get self.now.consumers place }
         ensures more { IfSome result (λ _. place + 1 < 2 ^ 64) }
     {
-        self.consumers.get(place).copied()
+        self.consumers.get(place)
+    }
+
+    /// Notes where the Consumer at a place and its transport stand.
+    pub(crate) fn note(&mut self, place: usize, stands: Stands)
+        ensures { self.new ≡ self.old }
+    {
+        if let Some(consumer) = self.consumers.get_mut(place) {
+            consumer.note(stands);
+        }
     }
 
     /// Its Consumers in order of making, each with its transport.
-    pub(crate) fn consumers(&self) -> &[(Id, Id)]
+    pub(crate) fn consumers(&self) -> &[Listed]
         ensures { result.now ≡ self.now.consumers }
     {
         self.consumers.as_slice()
@@ -111,7 +121,11 @@ impl Feed {
     pub(crate) fn consumer_ids(&self, alloc: Global) -> Result<Vec<Id>, NoMemory>
         ensures { IfOk result (λ ids. ids.items ≡ map (λ place. place.0) self.now.consumers) }
     {
-        let ids = self.consumers.iter().map(|place| place.0).collect(alloc)?;
+        let ids = self
+            .consumers
+            .iter()
+            .map(|listed| listed.consumer())
+            .collect(alloc)?;
         Ok(ids)
     }
 
@@ -131,7 +145,7 @@ impl Feed {
         ensures ok { OnOk result (self.new ≡ record self.old { consumers = self.old.consumers ++ (consumer, transport) ∷ [] }) }
         ensures err { OnErr result (self.new ≡ self.old) }
     {
-        self.consumers.push((consumer, transport))?;
+        self.consumers.push(Listed::new(consumer, transport))?;
         Ok(())
     }
 
@@ -139,13 +153,15 @@ impl Feed {
     pub(crate) fn detach(&mut self, consumer: Id)
         ensures { self.new ≡ detached consumer self.old }
     {
-        self.consumers.retain(|place| place.0 != consumer);
+        self.consumers
+            .retain(|listed| listed.consumer() != consumer);
     }
 
     /// Keeps those Consumers that are there.
     pub(crate) fn keep_present(&mut self, consumers: &ById<Consumer>)
         ensures { self.new ≡ with_present consumers.now self.old }
     {
-        self.consumers.retain(|place| consumers.has(place.0));
+        self.consumers
+            .retain(|listed| consumers.has(listed.consumer()));
     }
 }

@@ -8,6 +8,7 @@ ghost use Rattle.worker_router.specs.Tables.{AreDifferent, detached, outline_of,
 use crate::by_id::ById;
 use crate::consumer::Consumer;
 use crate::feed::Feed;
+use crate::listed::Stands;
 use ms_base::{Id, NoMemory};
 
 impl ById<Feed> {
@@ -46,6 +47,19 @@ impl ById<Feed> {
             return;
         };
         feed.detach(consumer);
+    }
+
+    /// Notes where the Consumer at a place of the Producer of this id and its transport stand, if not where they stood.
+    pub(crate) fn note_move(&mut self, producer: Id, place: usize, stood: Stands, stands: Stands)
+        ensures { self.new ≡ self.old }
+    {
+        if stood == stands {
+            return;
+        }
+        let Some(feed) = self.items.get_mut(&producer.0) else {
+            return;
+        };
+        feed.note(place, stands);
     }
 
     /// Takes out those over a transport.

@@ -9,6 +9,7 @@ mod consumers;
 mod fault;
 mod feed;
 mod feeds;
+mod listed;
 mod packets;
 mod router;
 mod ssrcs;
@@ -17,6 +18,7 @@ mod transport;
 mod transports;
 
 pub use fault::RouterFault;
+pub use packets::Passed;
 pub use router::WorkerRouter;
 pub use transport::Transport;
 

@@ -1,16 +1,27 @@
 //! Packets of a Router.
 
-ghost use Rattle.std.specs.Prelude.{◌≡◌, ◌<◌, ◌≤◌, length, take, drop, is_some, true, option_map, option_and_then, IfSome, IfNone};
+ghost use Rattle.std.specs.Prelude.{◌≡◌, ◌<◌, ◌≤◌, ◌+◌, ◌^◌, length, take, drop, is_some, true, option_map, option_and_then, IfSome, IfNone};
 ghost use Rattle.rtp_packet.specs.Packet.{IsPacket};
 ghost use Rattle.rtp_packet.specs.Fault.{Parses};
-ghost use Rattle.worker_router.specs.State.{producer_of, consumer_of};
-ghost use Rattle.worker_router.specs.Calls.{behind_pass, passed_for, receiver, receives};
+ghost use Rattle.worker_router.specs.State.{consumer_of, producer_of};
+ghost use Rattle.worker_router.specs.Calls.{behind_pass, consumer_at, passed_for, remote_at, receiver, receives};
 
 use crate::router::WorkerRouter;
 use crate::ssrcs::owner;
-use ms_base::Id;
+use ms_base::{Id, Tuple};
 use rtp_extension::Mapped;
 use rtp_packet::{Packet, View};
+
+/// What a Consumer has done with a packet of its Producer's.
+#[derive(Clone, Copy, Debug, PartialEq, Eq)]
+pub struct Passed {
+    pub consumer: Id,
+    pub transport: Id,
+    /// The tuple of the transport's other end, once it is set.
+    pub remote: Option<Tuple>,
+    /// How many bytes the Consumer sends on, if it does.
+    pub length: Option<usize>,
+}
 
 impl WorkerRouter {
     /// The Producer of a transport that a packet is one of: that whose [`WorkerRouter::receive`] tells what it is mapped to.
@@ -32,6 +43,57 @@ impl WorkerRouter {
         ensures fits { IfSome result (λ m. m.payload_type < 128) }
     {
         self.producers.get(producer)?.receive(view)
+    }
+
+    /// Gives the Consumer at a place among those of a Producer, from 0 in order of making, a packet, and writes what it
+    /// sends on over the front of `into`. `mapped` is what the Producer says of the packet, which was read already. `None`
+    /// comes exactly where there is no such place. Where nothing is sent on, nothing is written. No memory is taken.
+    pub fn pass_to(
+        &mut self,
+        producer: Id,
+        place: usize,
+        mapped: Mapped,
+        view: &View<'_>,
+        packet: &[u8],
+        into: &mut [u8],
+    ) -> Option<Passed>
+        requires read { IsPacket view.now packet.now }
+        requires payload_type { mapped.payload_type < 128 }
+        requires room { length packet.now ≤ length into.old }
+        ensures to { option_map (λ p. (p.consumer, p.transport)) result ≡ consumer_at self.old producer place }
+        ensures remote { IfSome result (λ p. p.remote ≡ remote_at self.old p.transport) }
+        ensures packet { IfSome result (λ p. option_map (λ n. take n into.new) p.length ≡ passed_for self.old p.consumer mapped packet.now) }
+        ensures state { IfSome result (λ p. self.new ≡ behind_pass self.old p.consumer mapped packet.now) }
+        ensures none { IfNone result (self.new ≡ self.old) }
+        ensures no_longer { IfSome (option_and_then (λ p. p.length) result) (λ n. n ≤ length packet.now) }
+        ensures rest { IfSome (option_and_then (λ p. p.length) result) (λ n. drop n into.new ≡ drop n into.old) }
+        ensures untouched { IfNone (option_and_then (λ p. p.length) result) (into.new ≡ into.old) }
+        // There is a next place.
+        ensures more { IfSome result (λ _. place + 1 < 2 ^ 64) }
+    {
+        let feed = self.producers.get_near(producer, &mut self.served)?;
+        let to = feed.consumer_at(place)?;
+        let consumer = to.consumer();
+        let transport = to.transport();
+        let stood = to.stands();
+        let mut stands = stood;
+        let length = self.consumers.pass(
+            consumer,
+            &mut stands.consumer,
+            mapped,
+            feed.ids(),
+            view,
+            packet,
+            into,
+        );
+        let remote = self.transports.remote(transport, &mut stands.transport);
+        self.producers.note_move(producer, place, stood, stands);
+        Some(Passed {
+            consumer,
+            transport,
+            remote,
+            length,
+        })
     }
 
     /// Writes what a Consumer sends on of a packet over the front of `into`, and gives its length. `mapped` is what its
@@ -59,8 +121,8 @@ impl WorkerRouter {
         }
     }
 
-    /// The same of a packet that was read already: who has several Consumers reads it once.
-    pub fn pass_view(
+    // The same of a packet that was read.
+    fn pass_view(
         &mut self,
         consumer: Id,
         mapped: Mapped,
@@ -78,7 +140,15 @@ impl WorkerRouter {
         ensures rest { IfSome result (λ n. drop n into.new ≡ drop n into.old) }
         ensures untouched { IfNone result (into.new ≡ into.old) }
     {
+        let Some(found) = self.consumers.get(consumer) else {
+            unreachable!()
+        };
+        let Some(feed) = self.producers.get(found.producer()) else {
+            unreachable!()
+        };
+        let mut place = 0;
+        let ids = feed.ids();
         self.consumers
-            .pass(consumer, &self.producers, mapped, view, packet, into)
+            .pass(consumer, &mut place, mapped, ids, view, packet, into)
     }
 }

@@ -32,6 +32,8 @@ pub struct WorkerRouter {
     pub(crate) producers: ById<Feed>,
     pub(crate) consumers: ById<Consumer>,
     pub(crate) ssrcs: Ssrcs,
+    /// Where the Producer stands that had a packet last, as far as is known.
+    pub(crate) served: usize,
 }
 
 impl Model for WorkerRouter {
@@ -57,6 +59,7 @@ impl WorkerRouter {
             producers: ById::new(alloc),
             consumers: ById::new(alloc),
             ssrcs: IndexMap::new(alloc),
+            served: 0,
         }
     }
 
@@ -122,7 +125,9 @@ impl WorkerRouter {
         // There is a next place.
         ensures more { IfSome result (λ _. place + 1 < 2 ^ 64) }
     {
-        self.producers.get(producer)?.consumer_at(place)
+        let feed = self.producers.get(producer)?;
+        let listed = feed.consumer_at(place)?;
+        Some((listed.consumer(), listed.transport()))
     }
 }
 

@@ -122,31 +122,29 @@ fn packet(number: u8, ssrc: u8) -> [u8; 13] {
     [0x80, 0x6f, 0, number, 0, 0, 0, 0x0a, 0, 0, 0x08, ssrc, 0xaa]
 }
 
-// The Producer and what it says of a packet at a transport.
-fn received(router: &WorkerRouter, transport: u8, packet: &[u8]) -> Option<(Id, Mapped)> {
+// The Producer that receives a packet at a transport.
+fn receiver(router: &WorkerRouter, transport: u8, packet: &[u8]) -> Option<Id> {
     match Packet::parse(packet) {
-        Ok(view) => {
-            let producer = router.producer_of(id(transport), &view)?;
-            Some((producer, router.receive(producer, &view)?))
-        }
+        Ok(view) => router.producer_of(id(transport), &view),
         Err(_) => None,
     }
 }
 
-// The number that a Consumer gives to a packet of opus.
-fn passed(router: &mut WorkerRouter, consumer: u8, number: u8) -> Option<u8> {
-    let own = id(consumer);
+// The Consumer at a place among those of the Producer at the transport 1, and the number that it gives to a packet of
+// opus, if it sends it on.
+fn passed(router: &mut WorkerRouter, place: usize, number: u8) -> Option<(Id, Option<u8>)> {
     let packet = packet(number, 0xae);
-    let (_producer, mapped) = received(router, 1, &packet)?;
+    let Ok(view) = Packet::parse(&packet) else {
+        return None;
+    };
+    let producer = router.producer_of(id(1), &view)?;
+    let mapped = router.receive(producer, &view)?;
     let mut into = [0x55; 13];
-    if mapped.payload_type > 127 || Packet::parse(&packet).is_err() {
-        return None;
+    let passed = router.pass_to(producer, place, mapped, &view, &packet, &mut into)?;
+    match passed.length {
+        Some(13) => Some((passed.consumer, Some(into[3]))),
+        _ => Some((passed.consumer, None)),
     }
-    if !router.has(Kind::Consumer, own) {
-        return None;
-    }
-    let length = router.pass(own, mapped, &packet, &mut into)?;
-    if length == 13 { Some(into[3]) } else { None }
 }
 
 // What a Router is asked. Objects are named by the bytes of their ids.
@@ -160,8 +158,7 @@ enum Step {
     Accept(u8, Tuple),
     Remote(u8),
     Receiver(u8, u8),
-    Place(u8, usize),
-    Pass(u8, u8),
+    Pass(usize, u8),
     PauseProducer(u8),
     ResumeProducer(u8),
     IsPaused(u8),
@@ -182,8 +179,7 @@ enum Seen {
     Accept(Accept),
     Tuple(Option<Tuple>),
     Id(Option<Id>),
-    Place(Option<(Id, Id)>),
-    Number(Option<u8>),
+    Passed(Option<(Id, Option<u8>)>),
     /// The last bytes of the ids that are told, of which there are at most four.
     Told([u8; 4]),
 }
@@ -239,11 +235,8 @@ fn look(router: &mut WorkerRouter, step: Step) -> Seen {
     match step {
         Step::Has(kind, own) => Seen::Flag(router.has(kind, id(own))),
         Step::Remote(own) => Seen::Tuple(router.remote(id(own))),
-        Step::Receiver(over, ssrc) => {
-            Seen::Id(received(router, over, &packet(1, ssrc)).map(|found| found.0))
-        }
-        Step::Place(of, place) => Seen::Place(router.consumers_of(id(of), place)),
-        Step::Pass(own, number) => Seen::Number(passed(router, own, number)),
+        Step::Receiver(over, ssrc) => Seen::Id(receiver(router, over, &packet(1, ssrc))),
+        Step::Pass(place, number) => Seen::Passed(passed(router, place, number)),
         Step::IsPaused(own) => Seen::Flagged(router.is_paused(id(own))),
         other => change(router, other),
     }
@@ -292,8 +285,8 @@ fn objects_are_there(rt: HostRuntime) {
             (Step::Has(Kind::Pipe, 4), Seen::Flag(true)),
             (Step::Has(Kind::Producer, 21), Seen::Flag(false)),
             (Step::Has(Kind::Consumer, 25), Seen::Flag(true)),
-            (Step::Place(11, 3), Seen::Place(Some((id(24), id(4))))),
-            (Step::Place(11, 4), Seen::Place(None)),
+            (Step::Pass(3, 5), Seen::Passed(Some((id(24), None)))),
+            (Step::Pass(4, 5), Seen::Passed(None)),
             (Step::Receiver(1, 0xae), Seen::Id(Some(id(11)))),
             (Step::Receiver(2, 0xae), Seen::Id(None)),
         ],
@@ -348,17 +341,64 @@ fn packets_are_passed_while_active(rt: HostRuntime) {
     let other = first_other(
         rt.alloc(),
         &[
-            (Step::Pass(23, 5), Seen::Number(Some(1))),
-            (Step::Pass(24, 5), Seen::Number(None)),
+            (Step::Pass(2, 5), Seen::Passed(Some((id(23), Some(1))))),
+            (Step::Pass(3, 5), Seen::Passed(Some((id(24), None)))),
             (Step::Connect(4, ONE), Seen::Done),
-            (Step::Pass(24, 6), Seen::Number(Some(1))),
+            (Step::Pass(3, 6), Seen::Passed(Some((id(24), Some(1))))),
             (Step::Accept(2, OTHER), Seen::Accept(Accept::Learnt)),
-            (Step::Pass(22, 7), Seen::Number(Some(1))),
+            (Step::Pass(1, 7), Seen::Passed(Some((id(22), Some(1))))),
             (Step::PauseConsumer(22), Seen::Done),
-            (Step::Pass(22, 8), Seen::Number(None)),
+            (Step::Pass(1, 8), Seen::Passed(Some((id(22), None)))),
             (Step::ResumeConsumer(22), Seen::Done),
-            (Step::Pass(22, 9), Seen::Number(Some(2))),
+            (Step::Pass(1, 9), Seen::Passed(Some((id(22), Some(2))))),
             (Step::PauseConsumer(26), Seen::Fault(RouterFault::Missing)),
+        ],
+    );
+    assert_eq!(rt; other, Ok(None));
+}
+
+// The number that a Consumer gives to a packet of opus, by its id alone.
+fn passed_by(router: &mut WorkerRouter, consumer: Id, number: u8) -> Option<u8> {
+    let packet = packet(number, 0xae);
+    let Ok(view) = Packet::parse(&packet) else {
+        return None;
+    };
+    let producer = router.producer_of(id(1), &view)?;
+    let mapped = router.receive(producer, &view)?;
+    if !router.has(Kind::Consumer, consumer) {
+        return None;
+    }
+    let mut into = [0x55; 13];
+    match router.pass(consumer, mapped, &packet, &mut into) {
+        Some(13) => Some(into[3]),
+        _ => None,
+    }
+}
+
+#[test]
+fn a_consumer_passes_by_its_id_as_by_its_place(rt: HostRuntime) -> Result<(), RouterFault> {
+    let mut router = router(rt.alloc())?;
+    let place = router.consumers_of(id(11), 2);
+    assert_eq!(rt; place, Some((id(23), id(3))));
+    assert_eq!(rt; passed_by(&mut router, id(23), 5), Some(1));
+    assert_eq!(rt; passed(&mut router, 2, 6), Some((id(23), Some(2))));
+    assert_eq!(rt; passed_by(&mut router, id(23), 7), Some(3));
+    assert_eq!(rt; passed_by(&mut router, id(21), 8), None);
+    assert_eq!(rt; router.consumers_of(id(11), 4), None);
+    Ok(())
+}
+
+#[test]
+fn a_consumer_is_found_where_it_has_moved(rt: HostRuntime) {
+    let other = first_other(
+        rt.alloc(),
+        &[
+            (Step::Pass(2, 5), Seen::Passed(Some((id(23), Some(1))))),
+            (Step::CloseConsumer(22), Seen::Done),
+            (Step::Pass(1, 6), Seen::Passed(Some((id(23), Some(2))))),
+            (Step::CloseTransport(2), Seen::Told([0, 0, 0, 0])),
+            (Step::Pass(1, 7), Seen::Passed(Some((id(23), Some(3))))),
+            (Step::Pass(1, 8), Seen::Passed(Some((id(23), Some(4))))),
         ],
     );
     assert_eq!(rt; other, Ok(None));
@@ -372,11 +412,11 @@ fn a_paused_producer_feeds_nobody(rt: HostRuntime) {
             (Step::PauseProducer(11), Seen::Flag(true)),
             (Step::PauseProducer(11), Seen::Flag(false)),
             (Step::IsPaused(11), Seen::Flagged(Some(true))),
-            (Step::Pass(23, 5), Seen::Number(None)),
+            (Step::Pass(2, 5), Seen::Passed(Some((id(23), None)))),
             (Step::Consume(3, 26, 11), Seen::Flag(true)),
             (Step::ResumeProducer(11), Seen::Flag(true)),
-            (Step::Pass(23, 6), Seen::Number(Some(1))),
-            (Step::Pass(26, 7), Seen::Number(Some(1))),
+            (Step::Pass(2, 6), Seen::Passed(Some((id(23), Some(1))))),
+            (Step::Pass(4, 7), Seen::Passed(Some((id(26), Some(1))))),
             (Step::ResumeProducer(13), Seen::Fault(RouterFault::Missing)),
         ],
     );
@@ -395,7 +435,7 @@ fn a_transport_closes_with_what_comes_by_it(rt: HostRuntime) {
             (Step::CloseTransport(1), Seen::Fault(RouterFault::Missing)),
             (Step::Direct(1), Seen::Done),
             (Step::Produce(1, 11, 2222), Seen::Done),
-            (Step::Place(11, 0), Seen::Place(None)),
+            (Step::Pass(0, 5), Seen::Passed(None)),
         ],
     );
     assert_eq!(rt; other, Ok(None));
@@ -408,9 +448,9 @@ fn producers_and_consumers_close(rt: HostRuntime) {
         &[
             (Step::CloseConsumer(22), Seen::Done),
             (Step::CloseConsumer(22), Seen::Fault(RouterFault::Missing)),
-            (Step::Place(11, 1), Seen::Place(Some((id(23), id(3))))),
+            (Step::Pass(1, 5), Seen::Passed(Some((id(23), Some(1))))),
             (Step::CloseTransport(4), Seen::Told([0, 0, 0, 0])),
-            (Step::Place(11, 2), Seen::Place(None)),
+            (Step::Pass(2, 6), Seen::Passed(None)),
             (Step::CloseProducer(11), Seen::Told([21, 23, 0, 0])),
             (Step::CloseProducer(11), Seen::Fault(RouterFault::Missing)),
             (Step::Produce(1, 14, 2222), Seen::Done),

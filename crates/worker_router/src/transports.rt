@@ -1,7 +1,7 @@
 //! The transports of a Router.
 
-ghost use Rattle.std.specs.Prelude.{◌≡◌, find, Some, None, OnOk, OnErr, if◌then◌else◌, option_map};
-ghost use Rattle.worker_router.specs.State.{same_id};
+ghost use Rattle.std.specs.Prelude.{◌≡◌, find, Some, None, OnOk, OnErr, if◌then◌else◌, option_map, option_and_then};
+ghost use Rattle.worker_router.specs.State.{remote_of, same_id};
 ghost use Rattle.worker_router.specs.Calls.{accept_by, change, connect_fault_at, heard_from, is_learnt, told};
 ghost use Rattle.worker_router.specs.Tables.{checked};
 
@@ -75,6 +75,14 @@ impl ById<TransportAt> {
             return Err(RouterFault::Missing);
         };
         transport.tell(to)
+    }
+
+    /// The tuple of a transport's other end, once it is set. The transport is looked for at a place first: that is then
+    /// where it stands.
+    pub(crate) fn remote(&self, id: Id, place: &mut usize) -> Option<Tuple>
+        ensures { result ≡ option_and_then (λ t. remote_of t.transport) (find (λ t. same_id t.id id) self.now) }
+    {
+        self.get_near(id, place)?.transport().remote()
     }
 
     /// Whether a transport takes a packet from this tuple, if it is there.

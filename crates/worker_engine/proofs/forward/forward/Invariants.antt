@@ -5,8 +5,8 @@ use Rattle.worker_engine.specs.Forwarding.{targets, behind_each, out_each}
 use Rattle.worker_engine.proofs.forward.forward.Given as goal
 
 -- the Consumers up to a place are served: what is left behind what was done comes to the whole
-abbrev pub invariant-loop-consumer : goal.invariant-loop-consumer
-invariant-loop-consumer g l = record {
+abbrev pub invariant-loop-passed : goal.invariant-loop-passed
+invariant-loop-passed g l = record {
   same : targets l.incoming l.worker ≡ targets l.incoming l.initial.worker;
   state : behind_each l.incoming (drop l.place (targets l.incoming l.initial.worker)) l.worker ≡ behind_each l.incoming (targets l.incoming l.initial.worker) l.initial.worker;
   sent : List Outgoing;
@@ -16,5 +16,5 @@ invariant-loop-consumer g l = record {
   links : g.O.Outbox.link_faults l.initial.outbox ≤ g.O.Outbox.link_faults l.outbox;
 }
 
-abbrev pub decreases-loop-consumer : goal.decreases-loop-consumer
-decreases-loop-consumer g l = length (targets l.incoming l.worker) - l.place
+abbrev pub decreases-loop-passed : goal.decreases-loop-passed
+decreases-loop-passed g l = length (targets l.incoming l.worker) - l.place
