@@ -1,7 +1,7 @@
 //! The plain Rust that the engine is compared with. It keeps objects as the engine does: each by its id, in std's hash tables. A packet is
-//! parsed once, numbered for each Consumer, and copied. With `same` it looks up all that the engine looks up, for each copy the
-//! Router three times, the Producer twice, and the link, the transport and the Consumer once; with `fewest` it keeps what it has found, and
-//! looks up the transport and the Consumer alone for each copy.
+//! parsed once, numbered for each Consumer, and copied. With `same` it looks up all that the engine looks up, for each copy the Router and,
+//! where the transport has a tuple, the link; the Producer, the Consumer and its transport are looked for where they stand. With `fewest` it
+//! keeps the Router, and looks up the transport and the Consumer for each copy.
 //! Usage: plain KIND CONSUMERS same|fewest, with KIND as for requests.py.
 use std::collections::HashMap;
 use std::hint::black_box;
@@ -169,7 +169,6 @@ impl Transport {
 
 struct Consumer {
     head: [u8; HEAD - 4],
-    producer: Id,
     is_connected: bool,
     is_paused: bool,
     is_source_paused: bool,
@@ -205,9 +204,9 @@ impl Producer {
 }
 
 struct Router {
-    transports: HashMap<Id, Transport>,
-    producers: HashMap<Id, Producer>,
-    consumers: HashMap<Id, Consumer>,
+    transports: ById<Transport>,
+    producers: ById<Producer>,
+    consumers: ById<Consumer>,
     ssrcs: HashMap<(Id, u32), Id>,
 }
 
@@ -274,6 +273,46 @@ fn pass(consumer: &mut Consumer, ids: &[u8; 256], mapped: Mapped, view: &View, p
     Some(length)
 }
 
+/// Objects by their ids, in order of making.
+struct ById<T> {
+    places: HashMap<Id, usize>,
+    items: Vec<(Id, T)>,
+}
+
+impl<T> ById<T> {
+    fn place_of(&self, id: &Id, first: usize) -> Option<usize> {
+        match self.items.get(first) {
+            Some((own, _)) if own == id => Some(first),
+            _ => self.places.get(id).copied(),
+        }
+    }
+
+    fn near(&self, id: &Id, first: usize) -> Option<&T> {
+        Some(&self.items[self.place_of(id, first)?].1)
+    }
+
+    fn near_mut(&mut self, id: &Id, first: usize) -> Option<&mut T> {
+        let place = self.place_of(id, first)?;
+        Some(&mut self.items[place].1)
+    }
+
+    fn get(&self, id: &Id) -> Option<&T> {
+        Some(&self.items[*self.places.get(id)?].1)
+    }
+
+    fn get_mut(&mut self, id: &Id) -> Option<&mut T> {
+        Some(&mut self.items[*self.places.get(id)?].1)
+    }
+}
+
+impl<T> FromIterator<(Id, T)> for ById<T> {
+    fn from_iter<I: IntoIterator<Item = (Id, T)>>(all: I) -> ById<T> {
+        let items: Vec<(Id, T)> = all.into_iter().collect();
+        let places = items.iter().enumerate().map(|(place, (id, _))| (*id, place)).collect();
+        ById { places, items }
+    }
+}
+
 #[derive(Default)]
 struct Meter {
     frames: u64,
@@ -315,18 +354,21 @@ fn send(buffer: &mut [u8], length: usize, head: &[u8; HEAD - 4], end: Option<(u3
 
 /// A packet goes to the Consumers, with all look-ups of the engine.
 fn forward_same(worker: &mut Worker, router: Id, producer: Id, view: &View, packet: &[u8], meter: &mut Meter) -> Option<()> {
-    let mapped = worker.routers.get(&router)?.producers.get(&producer)?.receive(view)?;
+    let mapped = worker.routers.get(&router)?.producers.near(&producer, 0)?.receive(view)?;
     let mut place = 0;
-    while let Some(&(id, transport)) = worker.routers.get(&router)?.producers.get(&producer)?.consumers.get(place) {
+    loop {
+        let Router { transports, producers, consumers, .. } = worker.routers.get_mut(&router)?;
+        let source = producers.near(&producer, 0)?;
+        let Some(&(id, transport)) = source.consumers.get(place) else { break };
+        let consumer = consumers.near_mut(&id, place)?;
+        // The transport of the Producer was made first.
+        let remote = transports.near(&transport, place + 1)?.remote;
         place += 1;
-        let mut end = None;
-        if let Some(link) = worker.links.get(&(router, transport)) {
-            end = worker.routers.get(&router)?.transports.get(&transport)?.remote.map(|to| (*link, to));
-        }
-        let Router { producers, consumers, .. } = worker.routers.get_mut(&router)?;
-        let consumer = consumers.get_mut(&id)?;
-        let source = producers.get(&consumer.producer)?;
         if let Some(length) = pass(consumer, &source.ids, mapped, view, packet, &mut worker.buffer) {
+            let end = match remote {
+                Some(to) => worker.links.get(&(router, transport)).map(|link| (*link, to)),
+                None => None,
+            };
             send(&mut worker.buffer, length, &consumer.head, end, meter);
         }
     }
@@ -395,7 +437,6 @@ fn consumer_of(kind: Kind, place: usize) -> Consumer {
     };
     Consumer {
         head,
-        producer: id_of(PRODUCER),
         is_connected: true,
         is_paused: false,
         is_source_paused: false,
@@ -421,21 +462,21 @@ fn producer_of(kind: Kind, consumers: usize) -> Producer {
 
 fn worker_of(kind: Kind, consumers: usize) -> Worker {
     let (router, transport, producer) = (id_of(ROUTER), id_of(TRANSPORT), id_of(PRODUCER));
-    let mut transports = HashMap::from([(transport, Transport { link: (!kind.is_direct()).then_some(1), remote: None })]);
+    let mut transports = vec![(transport, Transport { link: (!kind.is_direct()).then_some(1), remote: None })];
     let (mut places, mut links) = (HashMap::from([(1, (router, transport))]), HashMap::from([((router, transport), 1)]));
     for place in 0..consumers {
         let (id, link) = (id_of(OTHER + place), 2 + place as u32);
         let is_linked = !kind.is_direct();
         let remote = is_linked.then_some(([127, 0, 0, 1], 10_000 + place as u16));
-        transports.insert(id, Transport { link: is_linked.then_some(link), remote });
+        transports.push((id, Transport { link: is_linked.then_some(link), remote }));
         if is_linked {
             places.insert(link, (router, id));
             links.insert((router, id), link);
         }
     }
     let stand = Router {
-        transports,
-        producers: HashMap::from([(producer, producer_of(kind, consumers))]),
+        transports: transports.into_iter().collect(),
+        producers: [(producer, producer_of(kind, consumers))].into_iter().collect(),
         consumers: (0..consumers).map(|place| (id_of(CONSUMER + place), consumer_of(kind, place))).collect(),
         ssrcs: (0..kind.encodings() as u32).map(|encoding| ((transport, 2222 + encoding), producer)).collect(),
     };
