@@ -1,9 +1,9 @@
 -- The lines of a text, one after another.
 use Rattle.std.proofs.Common.{◌≡◌, ℕ, ◌+◌, ◌<◌, List, [], ◌∷◌, ◌++◌, length, codes, Result, Ok, Err, refl, sym, ◌∙◌, ap, arith, append_assoc, eqb, subst}
-use Rattle.std.proofs.lemmas.Bool.{cond-true, cond-false, ne_eqb}
+use Rattle.std.proofs.lemmas.Bool.{cond-true, cond-false, false_from_ne_true, ne_eqb}
 use Rattle.std.proofs.lemmas.List.Splits.{length-slice_split}
 use Rattle.std.proofs.lemmas.List.{append-nil}
-use Rattle.std.proofs.lemmas.Str.{is_utf8-from_IsUtf8}
+use Rattle.std.proofs.lemmas.Str.{IsUtf8-from_is_utf8, is_utf8-from_IsUtf8}
 use Rattle.std.specs.Str.{IsUtf8}
 use Rattle.ms_base.specs.declared.code.Code.{Code}
 use Rattle.ms_base.specs.declared.code.Code.TheVariants as code
@@ -13,7 +13,6 @@ use Rattle.journal_text.specs.Reading.{reading_of, reading_of_lines, behind_head
 use Rattle.journal_text.specs.declared.fault.JournalFault.{JournalFault}
 use Rattle.journal_text.specs.declared.fault.JournalFault.TheVariants as fault
 use Rattle.journal_text.specs.Gives.{Tells, told_line}
-use Rattle.script_text.proofs.Pieces.{not_utf8}
 
 pub entry_text : (line : List ℕ) → IsUtf8 line → entry_of_line line ≡ entry_of_words (words line)
 unfolding entry_of_line
@@ -21,7 +20,7 @@ entry_text line text = cond-true _ _ _ (is_utf8-from_IsUtf8 line text)
 
 pub entry_no_text : (line : List ℕ) → (IsUtf8 line → ⊥) → entry_of_line line ≡ Err code.Utf8
 unfolding entry_of_line
-entry_no_text line bad = cond-false _ _ _ (not_utf8 line bad)
+entry_no_text line bad = cond-false _ _ _ (false_from_ne_true _ (λ e. bad (IsUtf8-from_is_utf8 line e)))
 
 -- one entry before those that are read
 abbrev pub then_entries : Entry → Result (List Entry) BadLine → Result (List Entry) BadLine

@@ -3,4 +3,5 @@ pub mod Reading
 pub mod WellFormed
 pub mod Gives
 pub mod Case
+pub mod Lower
 pub mod Rows

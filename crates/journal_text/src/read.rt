@@ -9,6 +9,7 @@ ghost use Rattle.script_text.specs.Words.{lines};
 mod line;
 
 use crate::fault::JournalFault;
+use crate::laws::{what_reads_has_a_seed, what_reads_is_as_long, what_reads_is_well_formed};
 use line::read_entry;
 use ms_base::{Code, Entry};
 use script_text::{WordFault, first_line, read_head};
@@ -35,6 +36,9 @@ pub fn read_journal(alloc: Global, text: &[u8]) -> Result<(u64, Vec<Entry>), Jou
     let Some(rest) = rest else {
         return Err(bad_line(1, Code::Cut));
     };
+    what_reads_has_a_seed();
+    what_reads_is_well_formed();
+    what_reads_is_as_long();
     match read_entries(alloc, rest) {
         Ok(entries) => Ok((seed, entries)),
         Err(fault) => Err(fault),

@@ -15,7 +15,8 @@ use Rattle.script_text.specs.declared.verb.Turning.TheVariants as turning
 use Rattle.script_text.specs.Words.{◌>>=◌, words, by_word, is_word, rest_of_line}
 use Rattle.script_text.specs.Forms.{Name, Hex, Last, Then, Values, takes_rest, before_last, pieces, args_of, value_words, are_values}
 use Rattle.script_text.specs.Calls.{verb_word, shape_of, verbs, op_with, Line, line_of, line_verb, line_rest, is_read_line, is_read, call_of, op_of, op_of_words, await_shape, await_of, op_words, is_well_formed_op, await_words, is_await, lower_packet, lower_call}
-use Rattle.script_text.proofs.WordLaws.{IsLine, bind_ok, ok_is, picked, by_word_is, joined_line, next_word, line_behind, is_plain_word}
+use Rattle.script_text.specs.Parted.{bind_ok, ok_is, picked}
+use Rattle.script_text.proofs.WordLaws.{IsLine, by_word_is, joined_line, next_word, line_behind, IsPlain}
 use Rattle.script_text.proofs.FormLaws.{IsBack, is_sound, has_hex, same_words, no_words, lower_joined, args_read, args_back, lower_by}
 
 -- ---- the table
@@ -32,7 +33,7 @@ sound verb.PipeRouter = refl
 
 -- a first word is plain, and is that of its verb alone
 record IsVerb (v : Verb) : Type 0 where
-  pub plain : is_plain_word (verb_word v)
+  pub plain : IsPlain (verb_word v)
   pub found : by_word verb_word (verb_word v) code.Op verbs ≡ Ok v
   pub sends : is_word (codes "send") (verb_word v) ≡ has_hex (shape_of v)
 

@@ -1,22 +1,16 @@
 -- Words of a shape: what is written is a line and is read back; what is read has such words, and is written as it stood
 -- but for the case of hexadecimal digits.
-use Rattle.std.proofs.Common.{◌≡◌, ℕ, zero, suc, ◌^◌, ◌<◌, List, [], ◌∷◌, ◌++◌, Bool, true, false, ◌&&◌, ◌||◌, ltb, length, map, Result, Ok, is_some, refl, sym, ◌∙◌, ap, subst, arith}
+use Rattle.std.proofs.Common.{◌≡◌, ℕ, zero, suc, ◌^◌, ◌<◌, List, [], ◌∷◌, ◌++◌, Bool, true, false, ◌&&◌, ◌||◌, ltb, length, Result, Ok, is_some, refl, sym, ◌∙◌, ap, subst, arith}
 use Rattle.std.proofs.lemmas.Bool.{and_parts, and_from, or_parts, ltb-true, cond-true}
-use Rattle.std.specs.Char.{to_ascii_lowercase}
 use Rattle.std.specs.List.{list_all}
 use Rattle.serde_json.specs.Read.{read}
 use Rattle.ms_base.specs.declared.code.Code.{Code}
 use Rattle.ms_base.specs.declared.code.Code.TheVariants as code
 use Rattle.script_text.specs.Words.{◌>>=◌, words, rest_of_line, is_line, events, event_word}
-use Rattle.script_text.specs.Forms.{Form, Name, Number, Event, Hex, Json, Shape, Last, Then, Value, Values, cut, takes_rest, before_last, pieces, value_of, values_of, args_of, value_word, value_words, is_value, are_values}
+use Rattle.script_text.specs.Forms.{Form, Name, Number, Event, Hex, Json, Shape, Last, Then, Value, Values, cut, takes_rest, before_last, pieces, value_of, values_of, args_of, value_word, value_words, lower_word, is_tight, is_value, are_values}
+use Rattle.script_text.specs.Parted.{bind_ok, ok_is}
 use Rattle.script_text.proofs.Cuts.{rest_piece}
-use Rattle.script_text.proofs.WordLaws.{IsLine, bind_ok, ok_is, by_word_is, line_from, line_tested, line_behind, plain_line, joined_line, last_word, next_word, is_plain_word, within, number_plain, number_reads, number_back, name_plain, name_back, event_plain, event_reads, are_bytes, hex_plain, hex_reads, hex_back, json_reads, json_back}
-
--- a word of this form has no blank, and its numbers fit
-abbrev pub is_tight : Form → Bool
-is_tight (Number low high) = ltb high (2 ^ 64)
-is_tight Json = false
-is_tight _ = true
+use Rattle.script_text.proofs.WordLaws.{IsLine, by_word_is, line_from, line_tested, line_behind, plain_line, joined_line, last_word, next_word, IsPlain, within, number_plain, number_reads, number_back, name_plain, name_back, event_plain, event_reads, are_bytes, hex_plain, hex_reads, hex_back, json_reads, json_back}
 
 -- a JSON text stands at the end alone
 abbrev pub is_sound : Shape → Bool
@@ -26,7 +20,7 @@ is_sound (Then form shape) = is_tight form && is_sound shape
 
 -- ---- what is written is read
 
-value_plain : (form : Form) (x : Value form) → is_tight form ≡ true → is_value form x ≡ true → is_plain_word (value_word form x)
+pub value_plain : (form : Form) (x : Value form) → is_tight form ≡ true → is_value form x ≡ true → IsPlain (value_word form x)
 value_plain Name name t h = name_plain name h
 value_plain (Number low high) n t h =
     let fits : high < 2 ^ 64 = ltb-true high (2 ^ 64) t in
@@ -35,7 +29,7 @@ value_plain Event e t h = event_plain e
 value_plain Hex bytes t h = hex_plain bytes (are_bytes bytes (and_parts (ltb 0 (length bytes)) (list_all (λ b. ltb b 256) bytes) h).1)
 value_plain Json text t h = absurd cc
 
-value_reads : (form : Form) (x : Value form) → is_tight form ≡ true → is_value form x ≡ true → value_of form (value_word form x) ≡ Ok x
+pub value_reads : (form : Form) (x : Value form) → is_tight form ≡ true → is_value form x ≡ true → value_of form (value_word form x) ≡ Ok x
 value_reads Name name t h = cond-true _ _ _ h
 value_reads (Number low high) n t h = number_reads low high n (ltb-true high (2 ^ 64) t) h
 value_reads Event e t h = event_reads e
@@ -54,13 +48,13 @@ record IsCut (shape : Shape) (xs : Values shape) : Type 0 where
   pub line : IsLine (rest_of_line (value_words shape xs))
   pub found : pieces shape (words (rest_of_line (value_words shape xs))) ≡ Ok (value_words shape xs)
 
-cut_one : (form : Form) (x : Value form) → takes_rest (Last form) ≡ false → is_plain_word (value_word form x) → IsCut (Last form) x
+cut_one : (form : Form) (x : Value form) → takes_rest (Last form) ≡ false → IsPlain (value_word form x) → IsCut (Last form) x
 cut_one form x e h = record {
   line = plain_line (value_word form x) h;
   found = ap (λ ws. pieces (Last form) ws) (last_word (value_word form x) h) ∙ ap (λ b. cut b 0 (value_word form x ∷ [])) e;
 }
 
-cut_more : (form : Form) (shape : Shape) (x : Value form) (xs : Values shape) → is_plain_word (value_word form x) → IsCut shape xs → IsCut (Then form shape) (x, xs)
+cut_more : (form : Form) (shape : Shape) (x : Value form) (xs : Values shape) → IsPlain (value_word form x) → IsCut shape xs → IsCut (Then form shape) (x, xs)
 cut_more form shape x xs h more =
     let rest : List ℕ = rest_of_line (value_words shape xs) in
     let whole = joined (value_word form x) shape xs in record {
@@ -107,11 +101,7 @@ args_read shape xs t h =
 
 -- ---- what is read is written so
 
--- a word as it is written, and the words of a shape
-abbrev pub lower_word : Form → List ℕ → List ℕ
-lower_word Hex word = map to_ascii_lowercase word
-lower_word _ word = word
-
+-- the words of a shape as they are written
 abbrev pub lower_by : Shape → List (List ℕ) → List (List ℕ)
 lower_by (Last form) (word ∷ []) = lower_word form word ∷ []
 lower_by (Then form shape) (word ∷ more) = lower_word form word ∷ lower_by shape more
@@ -142,7 +132,7 @@ same_words (Then form shape) (w ∷ ws) h =
     let parts = or_parts (is_hex form) (has_hex shape) h in
     ap (λ (u : List ℕ). u ∷ lower_by shape ws) (same_word form w parts.0) ∙ ap (λ (us : List (List ℕ)). w ∷ us) (same_words shape ws parts.1)
 
-value_back : (form : Form) (word : List ℕ) (x : Value form) → is_tight form ≡ true → value_of form word ≡ Ok x
+pub value_back : (form : Form) (word : List ℕ) (x : Value form) → is_tight form ≡ true → value_of form word ≡ Ok x
     → (value_word form x ≡ lower_word form word) × (is_value form x ≡ true)
 value_back Name word x t h = name_back word x h
 value_back (Number low high) word x t h = number_back low high word x (ltb-true high (2 ^ 64) t) h

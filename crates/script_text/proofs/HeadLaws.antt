@@ -7,12 +7,9 @@ use Rattle.std.specs.Fmt.{decimal}
 use Rattle.std.specs.Str.{is_utf8}
 use Rattle.ms_base.specs.declared.code.Code.{Code}
 use Rattle.ms_base.specs.declared.code.Code.TheVariants as code
-use Rattle.script_text.specs.Words.{words, rest_of_line, is_word, number_of, max_seed, or_head, head_of, seed_of_words, seed_of_line}
-use Rattle.script_text.proofs.WordLaws.{IsLine, picked, word_is, within, number_plain, number_reads, number_back, is_plain_word, joined_line, plain_line, next_word, last_word}
-
--- the words of a first line
-abbrev pub head_words : List ℕ → ℕ → List (List ℕ)
-head_words word seed = word ∷ codes "1" ∷ decimal seed ∷ []
+use Rattle.script_text.specs.Words.{words, rest_of_line, is_word, number_of, max_seed, head_words, or_head, head_of, seed_of_words, seed_of_line}
+use Rattle.script_text.specs.Parted.{picked}
+use Rattle.script_text.proofs.WordLaws.{IsLine, word_is, within, number_plain, number_reads, number_back, IsPlain, joined_line, plain_line, next_word, last_word}
 
 -- a first line that has these words, and is read as the seed
 pub record IsHead (word : List ℕ) (seed : ℕ) (text : List ℕ) : Type 0 where
@@ -26,7 +23,7 @@ seed_read word seed h =
     cond-true (is_word word word && is_word (codes "1") (codes "1")) (or_head (number_of 0 max_seed (decimal seed))) (Err code.Head) (and_from _ _ ((bytes_eq-Decides word word).1 refl) refl)
     ∙ ap or_head (number_reads 0 max_seed seed (omega arith) (and_from _ _ (le-leb 0 seed (omega arith)) (le-leb seed max_seed (omega arith))))
 
-pub head_reads : (word : List ℕ) (seed : ℕ) → is_plain_word word → seed < 2 ^ 60 → IsHead word seed (rest_of_line (head_words word seed))
+pub head_reads : (word : List ℕ) (seed : ℕ) → IsPlain word → seed < 2 ^ 60 → IsHead word seed (rest_of_line (head_words word seed))
 unfolding seed_of_line
 head_reads word seed plain h =
     let d : List ℕ = decimal seed in

@@ -7,8 +7,8 @@ use Rattle.script_text.specs.declared.script.Step.{Step}
 use Rattle.script_text.specs.declared.row.Row.{Row}
 use Rattle.script_text.specs.declared.row.Row.TheVariants as row
 use Rattle.script_text.specs.Words.{◌>>=◌, BadLine, at_line, is_word}
-use Rattle.script_text.proofs.WordLaws.{picked}
 use Rattle.script_text.specs.Script.{is_skipped, lane_row, lanes_behind, lanes_of, onto_last, row_of, row_steps, step_row, text_row, rows_behind, steps_before_lane, with_row, workers_in, workers_of}
+use Rattle.script_text.specs.Parted.{picked}
 
 -- ---- one row more
 

@@ -1,5 +1,5 @@
 -- What is read as a script can be written, and what is written is read as the script.
-use Rattle.std.proofs.Common.{◌≡◌, ℕ, suc, ◌+◌, ◌^◌, ◌<◌, ◌≤◌, inl, inr, List, [], ◌∷◌, Bool, true, false, ◌&&◌, cond, eqb, leb, ltb, length, codes, Result, Ok, Err, refl, sym, ◌∙◌, ap, subst, arith, length-append}
+use Rattle.std.proofs.Common.{◌≡◌, ℕ, suc, ◌+◌, ◌^◌, ◌<◌, ◌≤◌, inl, inr, List, [], ◌∷◌, Bool, true, false, ◌&&◌, cond, eqb, leb, ltb, length, codes, Ok, Err, refl, sym, ◌∙◌, ap, subst, arith, length-append}
 use Rattle.std.proofs.lemmas.Bool.{and_parts, and_from, le-leb, ltb-true, false≢true, cases_lt}
 use Rattle.std.proofs.lemmas.List.Folds.{list_all-append}
 use Rattle.std.proofs.lemmas.List.Splits.{join_with_byte-slice_split}
@@ -16,12 +16,13 @@ use Rattle.script_text.specs.declared.row.Row.TheVariants as row
 use Rattle.script_text.specs.Words.{◌>>=◌, BadLine, at_line, is_word, lines, max_seed, rest_of_line, seed_of_line, words}
 use Rattle.script_text.specs.Calls.{await_of, op_of}
 use Rattle.script_text.specs.Script.{is_script, is_skipped, is_step, is_worker, lane_row, lanes_behind, max_script, onto_last, row_of, script_lines, script_of, script_of_lines, step_of, step_row, text_row, with_row, workers_of}
+use Rattle.script_text.specs.Parted.{at_line_ok, bind_ok, ok_is, picked}
 use Rattle.script_text.proofs.CallLaws.{await_back, op_back}
 use Rattle.script_text.proofs.HeadLaws.{head_back}
 use Rattle.script_text.proofs.Pieces.{lacks}
 use Rattle.script_text.proofs.Rows.{all_lanes, lanes_from, workers_more}
 use Rattle.script_text.proofs.ScriptLines.{are_whole, lines_whole, script_whole}
-use Rattle.script_text.proofs.WordLaws.{IsLine, bind_ok, line_behind, ok_is, picked}
+use Rattle.script_text.proofs.WordLaws.{IsLine, line_behind}
 
 -- ---- a step that was read
 
@@ -157,16 +158,12 @@ good_row lanes (row.Step s) line h whole good =
       steps = steps_onto s lanes well good.steps;
     }
 
-row_ok : {A : Type 0} (n : ℕ) (r : Result A Code) (x : A) → at_line n r ≡ Ok x → r ≡ Ok x
-row_ok n (Ok y) x h = ap Ok (ok_is y x h)
-row_ok n (Err c) x h = absurd cc
-
 good_lines : (n : ℕ) (lanes out : List (List Step)) (ls : List (List ℕ)) → lanes_from n lanes ls ≡ Ok out → are_whole ls → AreGood lanes → AreGood out
 good_lines n lanes out [] h whole good = subst AreGood (ok_is {F = BadLine} lanes out h) good
 good_lines n lanes out (line ∷ more) h whole good =
     let r = bind_ok (at_line n (row_of (length lanes) (workers_of lanes) line)) _ out h in
     good_lines (n + 1) (with_row lanes r.0) out more r.2 whole.1
-    (good_row lanes r.0 line (row_ok n (row_of (length lanes) (workers_of lanes) line) r.0 r.1) whole.0 good)
+    (good_row lanes r.0 line (at_line_ok n (row_of (length lanes) (workers_of lanes) line) r.0 r.1) whole.0 good)
 
 none_good : AreGood []
 none_good = record { count = omega arith; workers = omega arith; steps = refl }
@@ -182,7 +179,7 @@ lines_read [] s h whole = absurd cc
 lines_read (head ∷ rest) s h whole =
     let seed = bind_ok (at_line 1 (seed_of_line (codes "script") head)) _ s h in
     let lanes = bind_ok (lanes_behind rest) _ s seed.2 in
-    let fits = (head_back (codes "script") head seed.0 (row_ok 1 (seed_of_line (codes "script") head) seed.0 seed.1)).1 in
+    let fits = (head_back (codes "script") head seed.0 (at_line_ok 1 (seed_of_line (codes "script") head) seed.0 seed.1)).1 in
     let good = good_lines 2 [] lanes.0 rest (sym (all_lanes rest) ∙ lanes.1) whole.1 none_good in
     subst (λ (x : Script). is_script x ≡ true) (ok_is {F = BadLine} _ s lanes.2) (is_script_from seed.0 lanes.0 fits good)
 

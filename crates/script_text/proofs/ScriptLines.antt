@@ -1,10 +1,10 @@
 -- The lines of a script: how a text is cut into them, and what comes of the first.
 use Rattle.std.proofs.Common.{◌≡◌, ℕ, zero, suc, ◌-◌, ◌<◌, ◌≤◌, List, [], ◌∷◌, ◌++◌, Bool, true, false, cond, eqb, length, get_or, take, codes, Result, Ok, Err, refl, sym, ◌∙◌, ap, subst, arith, append_assoc, length-append}
 use Rattle.std.proofs.Math.Seq.{take-append_seam}
-use Rattle.std.proofs.lemmas.Bool.{and_from, or_from, or_parts, eq-eqb, lt-ltb, le-leb, lt-leb, cond-true, cond-false}
+use Rattle.std.proofs.lemmas.Bool.{and_from, or_from, or_parts, eq-eqb, lt-ltb, le-leb, lt-leb, cond-true, cond-false, not_from_false}
 use Rattle.std.proofs.lemmas.List.Splits.{length-slice_split, slice_split-cons_yes, slice_split-cons_no}
 use Rattle.std.specs.Io.BufRead.{ends_with_byte, strip_last}
-use Rattle.std.specs.List.{list_any, onto_first}
+use Rattle.std.specs.List.{list_all, list_any, onto_first}
 use Rattle.ms_base.specs.declared.code.Code.{Code}
 use Rattle.ms_base.specs.declared.code.Code.TheVariants as code
 use Rattle.script_text.specs.declared.fault.ScriptFault.{ScriptFault}
@@ -12,7 +12,7 @@ use Rattle.script_text.specs.declared.fault.ScriptFault.TheVariants as fault
 use Rattle.script_text.specs.declared.script.Script.{Script}
 use Rattle.script_text.specs.declared.script.Step.{Step}
 use Rattle.script_text.specs.Gives.{Tells}
-use Rattle.script_text.specs.Words.{◌>>=◌, lines, seed_of_line, BadLine, at_line}
+use Rattle.script_text.specs.Words.{◌>>=◌, lines, is_unbroken, seed_of_line, BadLine, at_line}
 use Rattle.script_text.specs.Script.{ended, lanes_behind, max_script, script_lines, script_of, script_of_lines}
 use Rattle.script_text.proofs.Pieces.{lacks, pieces_at}
 
@@ -79,6 +79,13 @@ by_byte b text false e h = subst are_whole (sym (slice_split-cons_no (λ b. eqb 
 pub lines_whole : (text : List ℕ) → are_whole (lines text)
 lines_whole [] = (refl, tt)
 lines_whole (b ∷ text) = by_byte b text (eqb b 10) refl (lines_whole text)
+
+are_unbroken : (ls : List (List ℕ)) → are_whole ls → list_all is_unbroken ls ≡ true
+are_unbroken [] h = refl
+are_unbroken (line ∷ more) h = and_from _ _ (not_from_false _ h.0) (are_unbroken more h.1)
+
+pub all_unbroken : (text : List ℕ) → list_all is_unbroken (lines text) ≡ true
+all_unbroken text = are_unbroken (lines text) (lines_whole text)
 
 take_lacks : (n : ℕ) (line : List ℕ) → lacks 10 line → lacks 10 (take n line)
 take_lacks zero line h = refl

@@ -22,27 +22,11 @@ use Rattle.ms_base.specs.declared.keys.Event.{Event}
 use Rattle.ms_base.specs.declared.keys.Event.TheVariants as event
 use Rattle.ms_base.specs.declared.code.Code.{Code}
 use Rattle.ms_base.specs.declared.code.Code.TheVariants as code
-use Rattle.script_text.specs.Words.{◌>>=◌, words, is_line, is_word, is_number, is_within, number_of, name_of, by_word, event_of, event_word, json_of, some_bytes, hex_of}
+use Rattle.script_text.specs.Words.{words, is_line, is_plain_byte, is_plain_word, is_word, is_number, is_within, number_of, name_of, by_word, event_of, event_word, json_of, some_bytes, hex_of}
+use Rattle.script_text.specs.Parted.{ok_is, chosen}
 use Rattle.script_text.proofs.HexCase.{digits_lower}
 use Rattle.script_text.proofs.Numbers.{own, number_from, number_parts}
 use Rattle.script_text.proofs.Pieces.{lacks, pieces_at, pieces_none}
-
--- ---- rules one after another
-
-pub bind_ok : {A B F : Type 0} (r : Result A F) (f : A → Result B F) (y : B) → (r >>= f) ≡ Ok y → (x : A) × (r ≡ Ok x) × (f x ≡ Ok y)
-bind_ok (Ok x) f y h = (x, refl, h)
-bind_ok (Err e) f y h = absurd cc
-
-pub ok_is : {A F : Type 0} (x y : A) → ◌≡◌ {A = Result A F} (Ok x) (Ok y) → x ≡ y
-ok_is x y h = cc
-
-pub chosen : {A F : Type 0} (b : Bool) (x y : A) (f : F) → cond b (Ok x) (Err f) ≡ Ok y → (b ≡ true) × (x ≡ y)
-chosen true x y f h = (refl, cc)
-chosen false x y f h = absurd cc
-
-pub picked : {A F : Type 0} (b : Bool) (r : Result A F) (f : F) (y : A) → cond b r (Err f) ≡ Ok y → (b ≡ true) × (r ≡ Ok y)
-picked true r f y h = (refl, h)
-picked false r f y h = absurd cc
 
 -- two words that agree
 pub word_is : (expected word : List ℕ) → is_word expected word ≡ true → word ≡ expected
@@ -89,30 +73,26 @@ line_behind w rest h =
       whole = lacks_behind w rest h.whole;
     }
 
-abbrev is_plain_byte : ℕ → Bool
-is_plain_byte b = leb 48 b && ltb b 128
-
--- neither a blank nor the end of a line, and ASCII
-abbrev pub is_plain_word : List ℕ → Type 0
-is_plain_word w = list_all is_plain_byte w ≡ true
+abbrev pub IsPlain : List ℕ → Type 0
+IsPlain w = is_plain_word w ≡ true
 
 all_weaker : (p q : ℕ → Bool) → ((b : ℕ) → p b ≡ true → q b ≡ true) → (xs : List ℕ) → list_all p xs ≡ true → list_all q xs ≡ true
 all_weaker p q f [] h = refl
 all_weaker p q f (x ∷ xs) h = let parts = and_parts (p x) (list_all p xs) h in and_from _ _ (f x parts.0) (all_weaker p q f xs parts.1)
 
-plain_lacks : (c : ℕ) (w : List ℕ) → c < 48 → is_plain_word w → lacks c w
+plain_lacks : (c : ℕ) (w : List ℕ) → c < 48 → IsPlain w → lacks c w
 plain_lacks c [] small h = refl
 plain_lacks c (b ∷ w) small h =
     let parts = and_parts (is_plain_byte b) (list_all is_plain_byte w) h in
     let low : 48 ≤ b = leb-true 48 b (and_parts (leb 48 b) (ltb b 128) parts.0).0 in
     or_from _ _ (ne_eqb b c (λ e. omega arith)) (plain_lacks c w small parts.1)
 
-plain_ascii : (w : List ℕ) → is_plain_word w → IsAscii w
+plain_ascii : (w : List ℕ) → IsPlain w → IsAscii w
 plain_ascii [] h i = omega arith
 plain_ascii (b ∷ w) h zero = ltb-true b 128 (and_parts (leb 48 b) (ltb b 128) (and_parts (is_plain_byte b) (list_all is_plain_byte w) h).0).1
 plain_ascii (b ∷ w) h (suc i) = plain_ascii w (and_parts (is_plain_byte b) (list_all is_plain_byte w) h).1 i
 
-pub plain_line : (w : List ℕ) → is_plain_word w → IsLine w
+pub plain_line : (w : List ℕ) → IsPlain w → IsLine w
 plain_line w h = record { text = IsUtf8-from_ascii w (plain_ascii w h); whole = plain_lacks 10 w (omega arith) h }
 
 lacks_joined : (w rest : List ℕ) → lacks 10 w → lacks 10 rest → lacks 10 (w ++ 32 ∷ rest)
@@ -121,7 +101,7 @@ lacks_joined (x ∷ w) rest a b =
     let parts = or_parts (eqb x 10) (list_any (λ b. eqb b 10) w) a in
     or_from _ _ parts.0 (lacks_joined w rest parts.1 b)
 
-pub joined_line : (w rest : List ℕ) → is_plain_word w → IsLine rest → IsLine (w ++ 32 ∷ rest)
+pub joined_line : (w rest : List ℕ) → IsPlain w → IsLine rest → IsLine (w ++ 32 ∷ rest)
 joined_line w rest a b =
     let front = plain_line w a in
     record {
@@ -130,21 +110,21 @@ joined_line w rest a b =
     }
 
 -- a plain word is one word, and before a space the first
-pub last_word : (w : List ℕ) → is_plain_word w → words w ≡ w ∷ []
+pub last_word : (w : List ℕ) → IsPlain w → words w ≡ w ∷ []
 last_word w h = pieces_none 32 w (plain_lacks 32 w (omega arith) h)
 
-pub next_word : (w rest : List ℕ) → is_plain_word w → words (w ++ 32 ∷ rest) ≡ w ∷ words rest
+pub next_word : (w rest : List ℕ) → IsPlain w → words (w ++ 32 ∷ rest) ≡ w ∷ words rest
 next_word w rest h = pieces_at 32 w rest (plain_lacks 32 w (omega arith) h)
 
 -- ---- numbers
 
-digits_plain : (w : List ℕ) → all_ascii_digits w ≡ true → is_plain_word w
+digits_plain : (w : List ℕ) → all_ascii_digits w ≡ true → IsPlain w
 digits_plain [] h = refl
 digits_plain (b ∷ w) h =
     let parts = tells_all_ascii_digits.parts b w h in
     and_from _ _ (and_from _ _ (le-leb 48 b parts.0.0) (lt-ltb b 128 (omega arith))) (digits_plain w parts.1)
 
-pub number_plain : (n : ℕ) → n < 2 ^ 64 → is_plain_word (decimal n)
+pub number_plain : (n : ℕ) → n < 2 ^ 64 → IsPlain (decimal n)
 number_plain n fits = digits_plain (decimal n) (digits_decimal own n fits)
 
 number_whole : (n : ℕ) → n < 2 ^ 64 → get_or (decimal n) 0 0 ≡ 48 → length (decimal n) ≡ 1
@@ -190,7 +170,7 @@ name_byte_plain : (b : ℕ) → is_name_byte b ≡ true → is_plain_byte b ≡ 
 unfolding is_name_byte
 name_byte_plain b h = grind (arith, nat_tests)
 
-pub name_plain : (name : List ℕ) → is_name name ≡ true → is_plain_word name
+pub name_plain : (name : List ℕ) → is_name name ≡ true → IsPlain name
 unfolding is_name
 name_plain name h = all_weaker is_name_byte is_plain_byte name_byte_plain name (and_parts _ _ h).1
 
@@ -199,7 +179,7 @@ name_back word name h =
     let found = chosen (is_name word) word name code.Name h in
     (sym found.1, subst (λ n. is_name n ≡ true) found.1 found.0)
 
-pub event_plain : (e : Event) → is_plain_word (event_word e)
+pub event_plain : (e : Event) → IsPlain (event_word e)
 event_plain event.Running = refl
 event_plain event.Opened = refl
 event_plain event.Closed = refl
@@ -229,7 +209,7 @@ bytes_are : (bytes : List ℕ) → IsBytes bytes → list_all (λ b. ltb b 256) 
 bytes_are [] h = refl
 bytes_are (b ∷ bytes) h = and_from _ _ (lt-ltb b 256 (h 0)) (bytes_are bytes (λ i. h (suc i)))
 
-pub hex_plain : (bytes : List ℕ) → IsBytes bytes → is_plain_word (encode_lower bytes)
+pub hex_plain : (bytes : List ℕ) → IsBytes bytes → IsPlain (encode_lower bytes)
 hex_plain bytes h =
     all_weaker is_hex_digit is_plain_byte hex_digit_plain (encode_lower bytes)
     (list_all-from_AllPass is_hex_digit (encode_lower bytes) (decode_of-ok (encode_lower bytes) bytes (decode_of-encode_lower bytes h)).1)

@@ -1,6 +1,7 @@
 -- The words behind the first word of a line, by their forms (this project's own): how many there are is looked at
 -- before any of them is, and then they are read one after another.
-use Rattle.std.specs.Prelude.{ℕ, zero, suc, ◌&&◌, nat_lt, is_some, decimal, List, [], ◌∷◌, Bool, true, false, length, Result, Ok, Err}
+use Rattle.std.specs.Prelude.{ℕ, zero, suc, ◌^◌, ◌&&◌, nat_lt, is_some, decimal, map, List, [], ◌∷◌, Bool, true, false, length, Result, Ok, Err}
+use Rattle.std.specs.Char.{to_ascii_lowercase}
 use Rattle.std.specs.List.{list_all}
 use Rattle.hex.specs.Hex.{encode_lower}
 use Rattle.serde_json.specs.Read.{read}
@@ -94,6 +95,17 @@ value_word Json text = text
 abbrev pub value_words : (shape : Shape) → Values shape → List (List ℕ)
 value_words (Last form) x = value_word form x ∷ []
 value_words (Then form shape) (x, xs) = value_word form x ∷ value_words shape xs
+
+-- a word as it is written: digits of bytes in lower case
+abbrev pub lower_word : Form → List ℕ → List ℕ
+lower_word Hex word = map to_ascii_lowercase word
+lower_word _ word = word
+
+-- forms whose words have no blank; numbers are below 2^64
+abbrev pub is_tight : Form → Bool
+is_tight (Number low high) = nat_lt high (2 ^ 64)
+is_tight Json = false
+is_tight _ = true
 
 -- whether the value has such a word
 abbrev pub is_value : (form : Form) → Value form → Bool

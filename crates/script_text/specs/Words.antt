@@ -1,6 +1,6 @@
 -- Lines and their words, and what each word is read as (this project's own).
-use Rattle.std.specs.Prelude.{ℕ, ◌-◌, ◌^◌, ◌==◌, ◌&&◌, ◌||◌, not, nat_le, nat_lt, List, [], ◌∷◌, Bool, codes, length, slice_index, if◌then◌else◌, Option, Some, None, is_some, Result, Ok, Err}
-use Rattle.std.specs.List.{slice_split, join_with_byte, list_any}
+use Rattle.std.specs.Prelude.{ℕ, ◌-◌, ◌^◌, ◌==◌, ◌&&◌, ◌||◌, not, nat_le, nat_lt, decimal, List, [], ◌∷◌, Bool, codes, length, slice_index, if◌then◌else◌, Option, Some, None, is_some, Result, Ok, Err}
+use Rattle.std.specs.List.{slice_split, join_with_byte, list_all, list_any}
 use Rattle.std.specs.Str.{is_utf8, bytes_eq, all_ascii_digits}
 use Rattle.std.specs.Str.Parse.{digits_value}
 use Rattle.hex.specs.Hex.{decode_of}
@@ -35,9 +35,20 @@ lines_behind (Some rest) = lines rest
 abbrev pub rest_of_line : List (List ℕ) → List ℕ
 rest_of_line ws = join_with_byte space ws
 
+-- no line feed stands in it
+abbrev pub is_unbroken : List ℕ → Bool
+is_unbroken text = not (list_any (λ b. b == line_feed) text)
+
 -- a text that stands in one line
 abbrev pub is_line : List ℕ → Bool
-is_line text = is_utf8 text && not (list_any (λ b. b == line_feed) text)
+is_line text = is_utf8 text && is_unbroken text
+
+-- a word of ASCII characters from `0` on: no blank is among them, and no line feed
+abbrev pub is_plain_byte : ℕ → Bool
+is_plain_byte b = nat_le 48 b && nat_lt b 128
+
+abbrev pub is_plain_word : List ℕ → Bool
+is_plain_word word = list_all is_plain_byte word
 
 abbrev pub is_word : List ℕ → List ℕ → Bool
 is_word expected word = bytes_eq word expected
@@ -109,6 +120,9 @@ worker_of slot generation = do
 
 abbrev pub max_seed : ℕ
 max_seed = 2 ^ 60 - 1
+
+abbrev pub head_words : List ℕ → ℕ → List (List ℕ)
+head_words word seed = word ∷ codes "1" ∷ decimal seed ∷ []
 
 -- each other fault of the first line is `head`
 abbrev pub or_head : Result ℕ Code → Result ℕ Code

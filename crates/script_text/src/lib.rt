@@ -16,8 +16,10 @@ mod write;
 pub use call::{read_await, read_op};
 pub use fault::{ScriptFault, WordFault};
 pub use laws::{
-    what_reads_as_a_call_is_written, what_reads_as_a_wait_is_written, written_calls_read_back,
-    written_scripts_read_back, written_waits_read_back,
+    texts_are_lines, what_reads_as_a_call_is_written, what_reads_as_a_head_is_written,
+    what_reads_as_a_wait_is_written, what_reads_as_a_word_is_written, words_make_lines,
+    written_calls_read_back, written_heads_read_back, written_scripts_read_back,
+    written_waits_read_back, written_words_read_back,
 };
 pub use lines::{first_line, first_two, first_word, three_words};
 pub use read::{MAX_SCRIPT, read_script};

@@ -3,7 +3,6 @@ use Rattle.std.specs.Option.{option_copied}
 use Rattle.ms_base.specs.declared.code.Code.TheVariants as code
 use Rattle.script_text.specs.Words.{lines_behind}
 use Rattle.journal_text.proofs.Texts.{head_fault, head_cut, head_read, all_read, tells_from, tells_behind}
-use Rattle.journal_text.proofs.Journals.{text_back, text_size}
 use Rattle.journal_text.proofs.read.read_journal.Goals as goal
 
 pub returns-in-Err-clause-bad : goal.returns-in-Err-clause-bad
@@ -21,18 +20,15 @@ returns-in-Ok-read_entries-clause-ok c =
 
 pub returns-in-Ok-read_entries-clause-seed : goal.returns-in-Ok-read_entries-clause-seed
 returns-in-Ok-read_entries-clause-seed c =
-    let pieces = c.first_line.ensures.pieces ∙ ap (λ (o : Option (Bor (List ℕ))). c.first_line.result.0.now ∷ lines_behind (option_copied o)) c.in-Some.is in
-    (text_back c.args.text.now c.in-Ok.seed c.in-Ok-read_entries.entries.items (all_read c.args.text.now _ c.in-Some.rest.now c.in-Ok.seed _ pieces (sym c.in-Ok.ensures) c.in-Ok-read_entries.ensures.ok)).below
+    c.what_reads_has_a_seed.ensures c.args.text.now c.in-Ok.seed c.in-Ok-read_entries.entries.items (returns-in-Ok-read_entries-clause-ok c)
 
 pub returns-in-Ok-read_entries-clause-form : goal.returns-in-Ok-read_entries-clause-form
 returns-in-Ok-read_entries-clause-form c =
-    let pieces = c.first_line.ensures.pieces ∙ ap (λ (o : Option (Bor (List ℕ))). c.first_line.result.0.now ∷ lines_behind (option_copied o)) c.in-Some.is in
-    (text_back c.args.text.now c.in-Ok.seed c.in-Ok-read_entries.entries.items (all_read c.args.text.now _ c.in-Some.rest.now c.in-Ok.seed _ pieces (sym c.in-Ok.ensures) c.in-Ok-read_entries.ensures.ok)).fits
+    c.what_reads_is_well_formed.ensures c.args.text.now c.in-Ok.seed c.in-Ok-read_entries.entries.items (returns-in-Ok-read_entries-clause-ok c)
 
 pub returns-in-Ok-read_entries-clause-size : goal.returns-in-Ok-read_entries-clause-size
 returns-in-Ok-read_entries-clause-size c =
-    let pieces = c.first_line.ensures.pieces ∙ ap (λ (o : Option (Bor (List ℕ))). c.first_line.result.0.now ∷ lines_behind (option_copied o)) c.in-Some.is in
-    text_size c.args.text.now c.in-Ok.seed c.in-Ok-read_entries.entries.items (all_read c.args.text.now _ c.in-Some.rest.now c.in-Ok.seed _ pieces (sym c.in-Ok.ensures) c.in-Ok-read_entries.ensures.ok)
+    c.what_reads_is_as_long.ensures c.args.text.now c.in-Ok.seed c.in-Ok-read_entries.entries.items (returns-in-Ok-read_entries-clause-ok c)
 
 pub returns-in-Err-read_entries-clause-bad : goal.returns-in-Err-read_entries-clause-bad
 returns-in-Err-read_entries-clause-bad c =

@@ -2,8 +2,8 @@ use Rattle.script_text.proofs.WordLaws.{line_from}
 use Rattle.script_text.proofs.CallLaws.{op_back}
 use Rattle.script_text.proofs.laws.what_reads_as_a_call_is_written.Goals as goal
 
-pub returns-clause-written : goal.returns-clause-written
-returns-clause-written c = λ first rest o h. (op_back first rest o h).written
-
-pub returns-clause-form : goal.returns-clause-form
-returns-clause-form c = λ first rest o h line. (op_back first rest o h).fits (line_from _ line)
+pub returns : goal.returns
+returns c = record {
+  written = λ first rest o h. (op_back first rest o h).written;
+  form = λ first rest o h line. (op_back first rest o h).fits (line_from _ line);
+}

@@ -3,8 +3,8 @@ use Rattle.script_text.proofs.WordLaws.{line_tested}
 use Rattle.script_text.proofs.CallLaws.{op_reads}
 use Rattle.script_text.proofs.laws.written_calls_read_back.Goals as goal
 
-pub returns-clause-line : goal.returns-clause-line
-returns-clause-line c = λ o h. line_tested (op_words o) (op_reads o h).line
-
-pub returns-clause-read : goal.returns-clause-read
-returns-clause-read c = λ o h. (op_reads o h).read
+pub returns : goal.returns
+returns c = record {
+  line = λ o h. line_tested (op_words o) (op_reads o h).line;
+  read = λ o h. (op_reads o h).read;
+}
