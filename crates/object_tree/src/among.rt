@@ -5,9 +5,10 @@ ghost use Rattle.object_tree.specs.Tables.{AreAscending};
 use ms_base::Serial;
 use std::marker::Model;
 
-/// A list of serials, to be asked for each of many. It is searched by halves where it is in order.
+/// A list of serials, to be asked for each of many. It is searched by halves where it is in ascending order, and else from
+/// its front.
 #[derive(Debug, Drop)]
-pub(crate) struct Among<'a> {
+pub struct Among<'a> {
     serials: &'a [Serial],
     ascending: bool,
 }
@@ -25,7 +26,8 @@ impl<'a> Model for Among<'a> {
 }
 
 impl<'a> Among<'a> {
-    pub(crate) fn new(serials: &'a [Serial]) -> Among<'a>
+    /// These serials, in any order.
+    pub fn new(serials: &'a [Serial]) -> Among<'a>
         ensures { result ≡ serials.now }
     {
         let ascending = is_ascending(serials);
@@ -33,7 +35,7 @@ impl<'a> Among<'a> {
     }
 
     /// Whether a serial is one of them.
-    pub(crate) fn has(&self, serial: Serial) -> bool
+    pub fn has(&self, serial: Serial) -> bool
         ensures { result ≡ is_among self.now serial }
     {
         if self.ascending {

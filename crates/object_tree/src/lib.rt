@@ -14,6 +14,7 @@ mod names;
 mod object;
 mod tree;
 
+pub use among::Among;
 pub use laws::{falls_are_chains, falls_are_whole, falls_close_once, names_belong_to_the_latest};
 pub use object::{Mark, Object};
 pub use tree::Tree;

@@ -1,7 +1,7 @@
 ghost use Rattle.std.specs.Prelude.{◌≡◌, None, true, false, IsSomeAnd, IsTrue};
 ghost use Rattle.object_tree.specs.Objects.{is_open, is_producer, numbered, open_with_id};
 
-use crate::{Mark, Object, Tree};
+use crate::{Among, Mark, Object, Tree};
 use ms_base::{Id, Kind, Name, NoMemory, Reason, Serial};
 use std::alloc::Global;
 use std::test::Fail;
@@ -253,4 +253,16 @@ fn a_link_leads_in_either_direction(rt: HostRuntime) -> Result<(), Fail> {
 fn a_producer_leaves_its_consumers(rt: HostRuntime) -> Result<(), Fail> {
     assert_eq!(rt; with_one_end(rt.alloc(), 6)?.as_slice(), [6].as_slice());
     Ok(())
+}
+
+/// Whether each of two serials is among three, of which the second alone is.
+fn found(serials: &[Serial]) -> (bool, bool) {
+    let among = Among::new(serials);
+    (among.has(Serial(4)), among.has(Serial(9)))
+}
+
+#[test]
+fn a_serial_is_found_in_any_order(rt: HostRuntime) {
+    assert_eq!(rt; found(&[Serial(2), Serial(5), Serial(9)]), (false, true));
+    assert_eq!(rt; found(&[Serial(9), Serial(2), Serial(5)]), (false, true));
 }
