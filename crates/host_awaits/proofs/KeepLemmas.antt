@@ -21,14 +21,14 @@ use Rattle.host_awaits.specs.Settling.{HaveNoneAtRest, awaits_of}
 use Rattle.host_awaits.specs.Watching.{HasNoneYet, Watched, Watching, awaits_in, just_entered, looked_at, times_in, times_within, touched_by}
 use Rattle.host_awaits.specs.declared.entered.Await.{Await}
 use Rattle.host_awaits.specs.declared.names.Names.{Names}
-use Rattle.host_awaits.specs.declared.names.OfName.{OfName}
+use Rattle.host_awaits.specs.declared.times.Times.{Times}
 use Rattle.host_awaits.proofs.EntryLemmas.{all-appended, all-weaker, has-left, has-one, has-right, inserted-last, none-in, rising-appended}
 use Rattle.host_awaits.proofs.SettleLemmas.{below-kept}
 
 -- ---- how often each event was noted
 
-time-found : {Y : Type 0} (name : List ℕ) (wanted : Event) (es : List (String Y × OfName))
-    → times_within (lookup (bytes_eq name) (map (λ e. (string_bytes e.0, e.1.times)) es)) wanted ≡ times_of (lookup (is_at (λ k. slice_cmp nat_cmp name (string_bytes k))) es) wanted
+time-found : {Y : Type 0} (name : List ℕ) (wanted : Event) (es : List (String Y × Times))
+    → times_within (lookup (bytes_eq name) (map (λ e. (string_bytes e.0, e.1)) es)) wanted ≡ times_of (lookup (is_at (λ k. slice_cmp nat_cmp name (string_bytes k))) es) wanted
 time-found name wanted [] = refl
 time-found name wanted (e ∷ es) =
     let own = is_eq-slice_cmp name (string_bytes e.0) in
@@ -41,7 +41,7 @@ abbrev pub seen : Names → List Watched → Watching
 seen names waiting = record { waiting = waiting; times = times_seen names }
 
 pub times-in : (names : Names) (waiting : List Watched) (name : List ℕ) (wanted : Event) → times_in (seen names waiting) name wanted ≡ noted names name wanted
-times-in names waiting name wanted = time-found name wanted names.items.entries
+times-in names waiting name wanted = time-found name wanted names.times.entries
 
 pub times-were : (names : Names) (waiting : List Watched) (old : Watching) → seen names waiting ≡ old → (name : List ℕ) (wanted : Event) → noted names name wanted ≡ times_in old name wanted
 times-were names waiting old view name wanted = sym (times-in names waiting name wanted) ∙ ap (λ w. times_in w name wanted) view

@@ -21,7 +21,7 @@ watched names e = record { awaited = e.1; touched = not (rests names e) }
 
 -- how often each event was noted, by names
 abbrev pub times_seen : Names → List (List ℕ × Times)
-times_seen names = map (λ e. (string_bytes e.0, e.1.times)) names.items.entries
+times_seen names = map (λ e. (string_bytes e.0, e.1)) names.times.entries
 
 -- numbers rise in the order of entry
 abbrev pub AreRising : Entries → Type 0

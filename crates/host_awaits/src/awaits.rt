@@ -9,7 +9,6 @@ use crate::entered::Await;
 use crate::names::Names;
 use crate::settle::look_at_each;
 use crate::standing::Standing;
-use crate::times::one_more;
 use ms_base::{CallKey, Event, Name, NoMemory, Outcome};
 use std::alloc::Global;
 use std::collections::BTreeMap;
@@ -87,7 +86,7 @@ impl Awaits {
         ensures times { OnOk result ((name : List ℕ) (event : Event) → times_in self.new name event ≡ times_in self.old name event) }
     {
         let number = self.next;
-        let next = one_more(number)?;
+        let next = behind(number)?;
         self.touched.push(number)?;
         self.waiting.insert(number, awaited)?;
         self.next = next;
@@ -112,6 +111,13 @@ impl Awaits {
         self.touched.clear();
         Ok(settled)
     }
+}
+
+// The number behind another. As many awaits as a `u64` counts are in no memory.
+fn behind(number: u64) -> Result<u64, NoMemory>
+    ensures { IfOk result (λ next. next ≡ number + 1) }
+{
+    number.checked_add(1).ok_or(NoMemory)
 }
 
 // The name and the event that a note is of.

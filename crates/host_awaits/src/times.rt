@@ -8,13 +8,13 @@ use ms_base::{Event, NoMemory};
 /// How often each event was noted for objects of a name.
 #[derive(Clone, Copy, Debug)]
 pub(crate) struct Times {
-    pub(crate) running: u64,
-    pub(crate) opened: u64,
-    pub(crate) closed: u64,
-    pub(crate) paused: u64,
-    pub(crate) resumed: u64,
-    pub(crate) tuple: u64,
-    pub(crate) rtp: u64,
+    pub(crate) running: u32,
+    pub(crate) opened: u32,
+    pub(crate) closed: u32,
+    pub(crate) paused: u32,
+    pub(crate) resumed: u32,
+    pub(crate) tuple: u32,
+    pub(crate) rtp: u32,
 }
 
 impl Times {
@@ -37,7 +37,7 @@ impl Times {
     pub(crate) fn get(&self, event: Event) -> u64
         ensures { result ≡ time_of self.now event }
     {
-        match event {
+        let times = match event {
             Event::Running => self.running,
             Event::Opened => self.opened,
             Event::Closed => self.closed,
@@ -45,7 +45,8 @@ impl Times {
             Event::Resumed => self.resumed,
             Event::Tuple => self.tuple,
             Event::Rtp => self.rtp,
-        }
+        };
+        u64::from(times)
     }
 
     /// Counts an event once more.
@@ -65,8 +66,8 @@ impl Times {
     }
 }
 
-/// One more than a number of notes or awaits. As many as a `u64` counts are in no memory.
-pub(crate) fn one_more(times: u64) -> Result<u64, NoMemory>
+// One more than a number of notes. A journal within its limit has fewer than a `u32` counts.
+fn one_more(times: u32) -> Result<u32, NoMemory>
     ensures { IfOk result (λ more. more ≡ times + 1) }
 {
     times.checked_add(1).ok_or(NoMemory)

@@ -1,39 +1,36 @@
-use Rattle.std.proofs.Common.{◌≡◌, ◌∷◌, [], ◌++◌, Some, List, ℕ, ap, ◌∙◌, rules}
-use Rattle.host_awaits.specs.Names.{of_name, resting_of, times_of}
-use Rattle.host_awaits.specs.declared.names.OfName.{OfName}
+use Rattle.std.proofs.Common.{◌≡◌, ◌∷◌, [], ◌++◌, Some, None, List, ℕ, cond, bytes_eq, ap, ◌∙◌, rules}
+use Rattle.std.specs.String.{string_bytes}
+use Rattle.std.specs.BTreeMap.{get_by_text}
+use Rattle.host_awaits.specs.Names.{numbers_of}
 use Rattle.host_awaits.proofs.NameLemmas.{for_err, put, changed, unchanged}
 use Rattle.host_awaits.proofs.names.Names.rest.Goals as goal
 
-pub returns-in_err-push-in-Some-clause-noted : goal.returns-in_err-push-in-Some-clause-noted
-returns-in_err-push-in-Some-clause-noted c =
-    let w : OfName = record { times = c.in-Some.of_name.now.times; resting = c.push.new.self } in
-    let names = c.args.self.now in
-    let after = put names.items (c.get_mut.follows.lender w) c.as_str.result.now c.args.name.now c.as_str.ensures.value w ((c.get_mut.follows.holds w).3 (search rules)) in
-    let was : Some c.in-Some.of_name.now ≡ of_name names c.args.name.now = c.in-Some.ensures.value ∙ ap (of_name names) c.as_str.ensures.value in
-    λ of e. unchanged (of_name names) (of_name (record names { items = c.get_mut.follows.lender w })) c.args.name.now w after (λ o. times_of o e) (ap (λ o. times_of o e) was) of
-
 pub returns-in_err-push-in-Some-clause-err : goal.returns-in_err-push-in-Some-clause-err
 returns-in_err-push-in-Some-clause-err c =
-    let w : OfName = record { times = c.in-Some.of_name.now.times; resting = c.push.new.self } in
-    let names = c.args.self.now in
-    let after = put names.items (c.get_mut.follows.lender w) c.as_str.result.now c.args.name.now c.as_str.ensures.value w ((c.get_mut.follows.holds w).3 (search rules)) in
-    let was : Some c.in-Some.of_name.now ≡ of_name names c.args.name.now = c.in-Some.ensures.value ∙ ap (of_name names) c.as_str.ensures.value in
+    let w = c.push.new.self in
+    let names = c.args.self.now.resting in
+    let new = c.get_mut.follows.lender w in
+    let after = put names new c.as_str.result.now c.args.name.now c.as_str.ensures.value w ((c.get_mut.follows.holds w).3 (search rules)) in
+    let was : Some c.in-Some.numbers.now ≡ get_by_text names c.args.name.now = c.in-Some.ensures.value ∙ ap (get_by_text names) c.as_str.ensures.value in
     for_err c.from_residual.result
-    (unchanged (of_name names) (of_name (record names { items = c.get_mut.follows.lender w })) c.args.name.now w after resting_of (c.in_err-push-in-Some.ensures.items ∙ ap resting_of was))
-
-pub returns-in_ok-push-in-Some-clause-noted : goal.returns-in_ok-push-in-Some-clause-noted
-returns-in_ok-push-in-Some-clause-noted c =
-    let w : OfName = record { times = c.in-Some.of_name.now.times; resting = c.push.new.self } in
-    let names = c.args.self.now in
-    let after = put names.items (c.get_mut.follows.lender w) c.as_str.result.now c.args.name.now c.as_str.ensures.value w ((c.get_mut.follows.holds w).3 (search rules)) in
-    let was : Some c.in-Some.of_name.now ≡ of_name names c.args.name.now = c.in-Some.ensures.value ∙ ap (of_name names) c.as_str.ensures.value in
-    λ of e. unchanged (of_name names) (of_name (record names { items = c.get_mut.follows.lender w })) c.args.name.now w after (λ o. times_of o e) (ap (λ o. times_of o e) was) of
+    (unchanged (get_by_text names) (get_by_text new) c.args.name.now w after numbers_of (c.in_err-push-in-Some.ensures.items ∙ ap numbers_of was))
 
 pub returns-in_ok-push-in-Some-clause-resting : goal.returns-in_ok-push-in-Some-clause-resting
 returns-in_ok-push-in-Some-clause-resting c =
-    let w : OfName = record { times = c.in-Some.of_name.now.times; resting = c.push.new.self } in
-    let names = c.args.self.now in
-    let after = put names.items (c.get_mut.follows.lender w) c.as_str.result.now c.args.name.now c.as_str.ensures.value w ((c.get_mut.follows.holds w).3 (search rules)) in
-    let was : Some c.in-Some.of_name.now ≡ of_name names c.args.name.now = c.in-Some.ensures.value ∙ ap (of_name names) c.as_str.ensures.value in
-    changed (of_name names) (of_name (record names { items = c.get_mut.follows.lender w })) c.args.name.now w after resting_of (λ (numbers : List ℕ). numbers ++ c.args.number ∷ [])
-    (c.in_ok-push-in-Some.ensures.items ∙ ap (λ o. resting_of o ++ c.args.number ∷ []) was)
+    let w = c.push.new.self in
+    let names = c.args.self.now.resting in
+    let new = c.get_mut.follows.lender w in
+    let after = put names new c.as_str.result.now c.args.name.now c.as_str.ensures.value w ((c.get_mut.follows.holds w).3 (search rules)) in
+    let was : Some c.in-Some.numbers.now ≡ get_by_text names c.args.name.now = c.in-Some.ensures.value ∙ ap (get_by_text names) c.as_str.ensures.value in
+    changed (get_by_text names) (get_by_text new) c.args.name.now w after numbers_of (λ (numbers : List ℕ). numbers ++ c.args.number ∷ [])
+    (c.in_ok-push-in-Some.ensures.items ∙ ap (λ o. numbers_of o ++ c.args.number ∷ []) was)
+
+pub returns-in_ok-insert-in-None-clause-resting : goal.returns-in_ok-insert-in-None-clause-resting
+returns-in_ok-insert-in-None-clause-resting c =
+    let names = c.args.self.now.resting in
+    let none : None ≡ get_by_text names c.args.name.now = c.in-None.ensures.value ∙ ap (get_by_text names) c.as_str.ensures.value in
+    let after = put c.get_mut.follows.lender-at-none c.insert.new.self (string_bytes c.in_ok-key-in-None.key) c.args.name.now (c.in_ok-key-in-None.ensures.ok ∙ c.as_str-in-None.ensures.value) c.push-in-None.new.self c.in_ok-insert-in-None.ensures.updates in
+    changed (get_by_text names) (get_by_text c.insert.new.self) c.args.name.now c.push-in-None.new.self
+    (λ n. after n ∙ ap (λ m. cond (bytes_eq c.args.name.now n) (Some c.push-in-None.new.self) (get_by_text m n)) c.get_mut.follows.holds-at-none)
+    numbers_of (λ (numbers : List ℕ). numbers ++ c.args.number ∷ [])
+    (c.in_ok-push-in-None.ensures.items ∙ (ap (λ (l : List ℕ). l ++ c.args.number ∷ []) c.new-numbers.ensures.items ∙ ap (λ o. numbers_of o ++ c.args.number ∷ []) none))

@@ -1,36 +1,23 @@
-use Rattle.std.proofs.Common.{◌≡◌, [], Some, ap, ◌∙◌, rules}
-use Rattle.std.proofs.lemmas.Result.{on_ok_weaker, on_err_weaker}
-use Rattle.host_awaits.specs.Names.{of_name, resting_of, times_of}
-use Rattle.host_awaits.specs.Times.{time_of}
-use Rattle.host_awaits.specs.declared.names.OfName.{OfName}
-use Rattle.host_awaits.proofs.NameLemmas.{put, changed, unchanged}
+use Rattle.std.proofs.Common.{◌≡◌, ℕ, List, [], Some, ap, ◌∙◌, rules}
+use Rattle.std.specs.BTreeMap.{get_by_text}
+use Rattle.host_awaits.specs.Names.{numbers_of}
+use Rattle.host_awaits.proofs.NameLemmas.{for_err, put, changed, unchanged}
 use Rattle.host_awaits.proofs.names.Names.touch.Goals as goal
 
-pub returns-in-Some-clause-noted : goal.returns-in-Some-clause-noted
-returns-in-Some-clause-noted c =
-    let w : OfName = c.touch.new.self in
-    let names = c.args.self.now in
-    let after = put names.items (c.get_mut.follows.lender w) c.as_str.result.now c.args.name.now c.as_str.ensures.value w ((c.get_mut.follows.holds w).3 (search rules)) in
-    let was : Some c.in-Some.of_name.now ≡ of_name names c.args.name.now = c.in-Some.ensures.value ∙ ap (of_name names) c.as_str.ensures.value in
-    λ of e.
-    unchanged (of_name names) (of_name (record names { items = c.get_mut.follows.lender w })) c.args.name.now w after (λ o. times_of o e)
-    (ap (λ t. time_of t e) c.touch.ensures.times ∙ ap (λ o. times_of o e) was) of
+pub returns-in_err-append-in-Some-clause-err : goal.returns-in_err-append-in-Some-clause-err
+returns-in_err-append-in-Some-clause-err c =
+    let w = c.append.new.other in
+    let names = c.args.self.now.resting in
+    let new = c.get_mut.follows.lender w in
+    let after = put names new c.as_str.result.now c.args.name.now c.as_str.ensures.value w ((c.get_mut.follows.holds w).3 (search rules)) in
+    let was : Some c.in-Some.numbers.now ≡ get_by_text names c.args.name.now = c.in-Some.ensures.value ∙ ap (get_by_text names) c.as_str.ensures.value in
+    for_err c.from_residual.result
+    (unchanged (get_by_text names) (get_by_text new) c.args.name.now w after numbers_of (c.in_err-append-in-Some.ensures.other_items ∙ ap numbers_of was))
 
-pub returns-in-Some-clause-resting : goal.returns-in-Some-clause-resting
-returns-in-Some-clause-resting c =
-    let w : OfName = c.touch.new.self in
-    let names = c.args.self.now in
-    let after = put names.items (c.get_mut.follows.lender w) c.as_str.result.now c.args.name.now c.as_str.ensures.value w ((c.get_mut.follows.holds w).3 (search rules)) in
-    on_ok_weaker c.touch.result
-    (λ none. changed (of_name names) (of_name (record names { items = c.get_mut.follows.lender w })) c.args.name.now w after resting_of (λ numbers. []) none)
-    c.touch.ensures.ok
-
-pub returns-in-Some-clause-err : goal.returns-in-Some-clause-err
-returns-in-Some-clause-err c =
-    let w : OfName = c.touch.new.self in
-    let names = c.args.self.now in
-    let after = put names.items (c.get_mut.follows.lender w) c.as_str.result.now c.args.name.now c.as_str.ensures.value w ((c.get_mut.follows.holds w).3 (search rules)) in
-    let was : Some c.in-Some.of_name.now ≡ of_name names c.args.name.now = c.in-Some.ensures.value ∙ ap (of_name names) c.as_str.ensures.value in
-    on_err_weaker c.touch.result
-    (λ same. unchanged (of_name names) (of_name (record names { items = c.get_mut.follows.lender w })) c.args.name.now w after resting_of (same ∙ ap resting_of was))
-    c.touch.ensures.err
+pub returns-in_ok-append-in-Some-clause-resting : goal.returns-in_ok-append-in-Some-clause-resting
+returns-in_ok-append-in-Some-clause-resting c =
+    let w = c.append.new.other in
+    let names = c.args.self.now.resting in
+    let new = c.get_mut.follows.lender w in
+    let after = put names new c.as_str.result.now c.args.name.now c.as_str.ensures.value w ((c.get_mut.follows.holds w).3 (search rules)) in
+    changed (get_by_text names) (get_by_text new) c.args.name.now w after numbers_of (λ (numbers : List ℕ). []) c.in_ok-append-in-Some.ensures.other_items
