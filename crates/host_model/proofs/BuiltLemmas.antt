@@ -20,7 +20,7 @@ use Rattle.call_options.specs.Options.{caps_options, connect_options, consume_op
 use Rattle.call_options.specs.declared.options.ConsumeOptions.{ConsumeOptions}
 use Rattle.ortc_map.specs.ConsumerParams.{consumer_params}
 use Rattle.ortc_map.specs.ProducerMapping.{producer_mapping}
-use Rattle.ortc_map.specs.RouterCaps.{router_caps}
+use Rattle.ortc_map.specs.RouterCaps.{with_codecs}
 use Rattle.request_build.specs.declared.built.BuildFault.{BuildFault}
 use Rattle.request_build.specs.Asks as asks
 use Rattle.request_build.specs.Asks.{Ask, Built, Own, connect_asked, consume_asked, consumer_flagged, direct_asked, flag_asked, has_id_in, own_id, pipe_asked, piped_consume, plain_asked, produce_asked, producer_flagged, router_asked, simple_consume}
@@ -151,7 +151,7 @@ module _ (k : Known) (on : Object) (there : is_open_at k.objects on.serial ≡ t
   router-stands : (name options : List ℕ) → StandsIfAsked k (router_asked k name on options)
   router-stands name options =
       behind k (of_options (router_options options)) _
-      (λ codecs. behind k (of_mapping (router_caps codecs)) _ (λ caps. record { on_open = there; new = record { parent = refl; opens = refl; own_id = λ e. refl } }))
+      (λ given. behind k (of_mapping (with_codecs [] given)) _ (λ codecs. record { on_open = there; new = record { parent = refl; opens = refl; own_id = λ e. refl } }))
 
   plain-stands : (name options : List ℕ) → StandsIfAsked k (plain_asked k name on options)
   plain-stands name options =

@@ -1,5 +1,6 @@
 -- What a micro step is made of: small changes of what the host knows, each told once. Between two of them something may be in
--- hand: calls that were entered and came to nothing yet, and requests that were taken out and are still to be dealt with.
+-- hand: calls that were entered and came to nothing yet, requests that were taken out and are still to be dealt with, and a
+-- start that is still to be done.
 use Rattle.std.proofs.Common.{◌≡◌, ◌<◌, ℕ, ◌+◌, List, [], ◌∷◌, ◌++◌, length, map, nat_le, nat_lt, Bool, true, false, cond, Option, Some, None, Result, Ok, Err, refl}
 use Rattle.std.specs.Bool.{⊤}
 use Rattle.std.specs.List.{AllByRecursion, filter}
@@ -64,14 +65,19 @@ use Rattle.host_model.proofs.Objects.{IsAlike, KeepsLinks, alike-itself}
 pub record Going : Type 0 where
   pub calls : List CallKey
   pub taken : List (Request Due)
+  pub starts : List WorkerKey
   pub state : State
 
 abbrev pub going : List CallKey → List (Request Due) → State → Going
-going calls taken s = record { calls = calls; taken = taken; state = s }
+going calls taken s = record { calls = calls; taken = taken; starts = []; state = s }
 
 -- nothing is in hand
 abbrev pub at_rest : State → Going
 at_rest s = going [] [] s
+
+-- a worker is to be started
+abbrev pub starting : State → WorkerKey → Going
+starting s worker = record (at_rest s) { starts = worker ∷ [] }
 
 -- a note that says neither that a call has settled, nor that an object has opened or closed, nor that a request went to a
 -- worker
@@ -111,8 +117,7 @@ pub data Change : Going → Going → Type 0 where
   both : {g h i : Going} → Change g h → Change h i → Change g i
   notes : {calls : List CallKey} {taken : List (Request Due)} {s : State} (ns : List Note) → AllByRecursion IsPlain ns
       → Change (going calls taken s) (going calls taken (all_noted ns s))
-  slots : {calls : List CallKey} {taken : List (Request Due)} {s : State} (worker : WorkerKey)
-      → Change (going calls taken s) (going calls taken (record s { slots = with_up worker s.slots }))
+  slots : {s : State} (worker : WorkerKey) → Change (starting s worker) (at_rest (record s { slots = with_up worker s.slots }))
   streams : {calls : List CallKey} {taken : List (Request Due)} {s : State} (xs : List Stream) → Change (going calls taken s) (going calls taken (record s { streams = xs }))
   settles_call : {calls : List CallKey} {taken : List (Request Due)} {s : State} (call : CallKey) (outcome : Outcome) (names : List (List ℕ))
       → Change (going (call ∷ calls) taken s) (going calls taken (call_settled call outcome names s))
@@ -140,7 +145,7 @@ pub data Change : Going → Going → Type 0 where
       → Change (going calls [] s) (going calls (map done (filter (is_under (falls s.objects roots)) (waiting s.requests))) (fallen_with roots why s))
   settles_awaits : {calls : List CallKey} {taken : List (Request Due)} {s : State} → Change (going calls taken s) (going calls taken (settle_awaits s))
 
--- ---- how a micro step begins: a call or an await is entered, and is in hand
+-- ---- how a micro step begins: a call or an await is entered, and is in hand, or a start is
 
 abbrev pub entering : State → ℕ → Going
 entering s lane = going (next_call s.calls lane ∷ []) [] (record s { calls = s.calls ++ next_call s.calls lane ∷ [] })
@@ -154,13 +159,16 @@ IsQuiet other = ⊤
 pub data Entered (s : State) : Micro → Going → Type 0 where
   by_call : (lane : ℕ) (op : Op) → Entered s (Calls lane op) (entering s lane)
   by_await : (lane : ℕ) (name : List ℕ) (event : Event) (count : ℕ) → Entered s (Awaits lane name event count) (entering s lane)
+  by_start : (worker : WorkerKey) → Entered s (Starting worker) (starting s worker)
   quietly : (m : Micro) → IsQuiet m → Entered s m (at_rest s)
 
 -- what holds then
-pub once-entered : (P : Going → Type 0) (s : State) → ((lane : ℕ) → P (entering s lane)) → P (at_rest s) → (m : Micro) (g : Going) → Entered s m g → P g
-once-entered P s here rest m g (by_call lane op) = here lane
-once-entered P s here rest m g (by_await lane name event count) = here lane
-once-entered P s here rest m g (quietly n q) = rest
+pub once-entered : (P : Going → Type 0) (s : State) → ((lane : ℕ) → P (entering s lane)) → ((worker : WorkerKey) → P (starting s worker)) → P (at_rest s) → (m : Micro) (g : Going)
+    → Entered s m g → P g
+once-entered P s here begins rest m g (by_call lane op) = here lane
+once-entered P s here begins rest m g (by_await lane name event count) = here lane
+once-entered P s here begins rest m g (by_start worker) = begins worker
+once-entered P s here begins rest m g (quietly n q) = rest
 
 -- a micro step: how it begins, and what it goes on to
 pub record Steps (s : State) (m : Micro) (t : State) : Type 0 where
@@ -323,7 +331,7 @@ made-by-tuple object (Some tuple) = made-itself object
 
 made-by-flags : (object : Object) (f : Option Flags) → IsMadeIfAny object (option_map (flagged object) f)
 made-by-flags object None = tt
-made-by-flags object (Some f) = record { alike = record { serial = refl; id = refl; kind = refl; parent = refl; name = refl; far = refl }; opened = refl }
+made-by-flags object (Some f) = record { alike = record { serial = refl; id = refl; kind = refl; parent = refl; name = refl; far = refl; worker = refl; producer = refl }; opened = refl }
 
 pub made-is : (object : Object) (k : Kind) (content : Option Data) → IsMadeIfAny object (made object k content)
 made-is object kind.Plain content = made-by-tuple object (local_tuple content)
@@ -435,7 +443,7 @@ quiet-steps s m q change = record { start = at_rest s; entered = quietly m q; ch
 hear-is : (s : State) (m : Micro) → Steps s m (hear s m)
 hear-is s (Calls lane op) = record { start = entering s lane; entered = by_call lane op; change = called-is s lane op }
 hear-is s (Awaits lane name event count) = record { start = entering s lane; entered = by_await lane name event count; change = awaited-is s lane name event count }
-hear-is s (Starting worker) = quiet-steps s (Starting worker) tt (both (slots worker) (notes (note.Up worker ∷ []) (tt, tt)))
+hear-is s (Starting worker) = record { start = starting s worker; entered = by_start worker; change = both (slots worker) (notes (note.Up worker ∷ []) (tt, tt)) }
 hear-is s (Comes worker bytes) = quiet-steps s (Comes worker bytes) tt (streams (with_stream s.streams worker (stream_of s.streams worker ++ bytes)))
 hear-is s (Says worker said) = quiet-steps s (Says worker said) tt (heard_by-is s (up_slot s.slots worker) said)
 hear-is s (Breaks worker) = quiet-steps s (Breaks worker) tt still

@@ -112,7 +112,7 @@ closes-plain : (n : ℕ) (m : Note) → IsPlain m → closes n m ≡ false
 closes-plain n (note.Closed serial name why) h = absurd h
 closes-plain n other h = refl
 
-marked-closed : (m : Mark) (o : Object) → (marked m o).closed ≡ o.closed
+pub marked-closed : (m : Mark) (o : Object) → (marked m o).closed ≡ o.closed
 marked-closed Running o = refl
 marked-closed (Paused b) o = refl
 marked-closed (ProducerPaused b) o = refl
@@ -135,7 +135,7 @@ apart n (x ∷ xs) h =
     let here : one_if (is_closed_at n x) ≡ 0 = ap (λ b. one_if (b && is_some x.closed)) other in
     omega (arith, here, apart n xs h.1, count-cons (is_closed_at n) x xs)
 
-count-closed : (serial : Serial) (xs : List Object) → AreInOrder xs → count_by (is_closed_at serial.0) xs ≡ one_if (is_shut (numbered xs serial))
+pub count-closed : (serial : Serial) (xs : List Object) → AreInOrder xs → count_by (is_closed_at serial.0) xs ≡ one_if (is_shut (numbered xs serial))
 count-closed serial [] h = refl
 count-closed serial (x ∷ xs) h = at (has_serial serial x) refl (count-closed serial xs h.1)
   where
@@ -220,7 +220,7 @@ module _ (b : BuildsFit) (whole : FallsAreWhole) where
   tidy-step s m h =
       let st = step-is s m in
       let fits = fits-entered s m st.start st.entered h.0 in
-      (fits-change b st.change fits, tidy-change st.change fits (once-entered TidyOn s (λ lane. h.1) h.1 m st.start st.entered))
+      (fits-change b st.change fits, tidy-change st.change fits (once-entered TidyOn s (λ lane. h.1) (λ worker. h.1) h.1 m st.start st.entered))
 
   pub tidy-start : (seed : ℕ) → AreTidy (start seed)
   tidy-start seed = (fits-start seed, record { once = λ k. refl; stands = tt; due = tt })

@@ -234,7 +234,7 @@ given-step : BuildsFit → BuildsNew → (s : State) (m : Micro) → IsGiven s �
 given-step b new s m h =
     let st = step-is s m in
     let fits = fits-entered s m st.start st.entered h.0 in
-    let given = once-entered GivenOn s (λ lane. h.1) h.1 m st.start st.entered in
+    let given = once-entered GivenOn s (λ lane. h.1) (λ worker. h.1) h.1 m st.start st.entered in
     (fits-change b st.change fits, given-change b new st.change fits given)
 
 given-start : (seed : ℕ) → GivenOn (at_rest (start seed))

@@ -15,7 +15,7 @@ use Rattle.host_model.specs.Changes.{owner_settled}
 use Rattle.host_model.specs.Laws.{keys_behind}
 use Rattle.host_model.specs.Run.{Journal, after, after_all, break_behind, breaks_with, chunk_micros, state_of}
 use Rattle.host_model.specs.Step.{Micro, Calls, Awaits, Starting, Says, Breaks, step, steps}
-use Rattle.host_model.proofs.Changes.{Change, Entered, Going, IsQuiet, by_call, by_await, quietly, step-is, still, both, notes, slots, streams, settles_call, awaits, asks_by, wants, asks_to_close, takes, takes_none, opens, settles_taken, marks, falls_with, settles_awaits}
+use Rattle.host_model.proofs.Changes.{Change, Entered, Going, IsQuiet, by_call, by_await, by_start, quietly, step-is, still, both, notes, slots, streams, settles_call, awaits, asks_by, wants, asks_to_close, takes, takes_none, opens, settles_taken, marks, falls_with, settles_awaits}
 use Rattle.host_model.proofs.Counts.{all-append}
 
 calls-owner : (s : State) (o : Owner) (outcome : Outcome) (names : List (List ℕ)) → (owner_settled o outcome names s).calls ≡ s.calls
@@ -57,6 +57,7 @@ quiet-keys calls other q = refl
 keys-entered : (s : State) (m : Micro) (g : Going) → Entered s m g → g.state.calls ≡ keys_after s.calls m
 keys-entered s m g (by_call lane op) = refl
 keys-entered s m g (by_await lane name event count) = refl
+keys-entered s m g (by_start worker) = refl
 keys-entered s m g (quietly n q) = quiet-keys s.calls n q
 
 keys-step : (s : State) (m : Micro) → (step s m).calls ≡ keys_after s.calls m

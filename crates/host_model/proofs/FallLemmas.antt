@@ -26,7 +26,7 @@ use Rattle.host_model.proofs.Waiting.{all-fallen}
 
 -- ---- some object passes a test
 
-or-later : (a b : Bool) → b ≡ true → (a || b) ≡ true
+pub or-later : (a b : Bool) → b ≡ true → (a || b) ≡ true
 or-later true b h = refl
 or-later false b h = h
 
@@ -150,7 +150,7 @@ module _ (p : Object → Bool) (r : Object → Reason) (opened_before : (x : Obj
   fallen x = cond (p x) (closed_by (r x) x) x
 
   fallen-alike : (x : Object) → IsAlike x (fallen x)
-  fallen-alike x = chosen-alike (p x) x (closed_by (r x) x) (record { serial = refl; id = refl; kind = refl; parent = refl; name = refl; far = refl })
+  fallen-alike x = chosen-alike (p x) x (closed_by (r x) x) (record { serial = refl; id = refl; kind = refl; parent = refl; name = refl; far = refl; worker = refl; producer = refl })
 
   -- ---- the notes
 

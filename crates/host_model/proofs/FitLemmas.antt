@@ -46,7 +46,7 @@ most n next = one_if (nat_le 1 n && nat_lt n next)
 pub drawn-more : (n next c : ℕ) → 1 ≤ next → c ≤ most n next → c + one_if (next == n) ≤ most n (next + 1)
 drawn-more n next c h k = grind (arith, nat_tests)
 
-most-one : (n next : ℕ) → most n next ≤ 1
+pub most-one : (n next : ℕ) → most n next ≤ 1
 most-one n next = at (nat_le 1 n && nat_lt n next)
   where
     at : (b : Bool) → one_if b ≤ 1
@@ -336,7 +336,7 @@ draws-change : BuildsFit → {g h : Going} → Change g h → FitsOn g → Draws
 draws-change b (still {g}) f = draws-none g.state.next (length g.calls) (length g.state.calls)
 draws-change b (both {g} {h} {i} x y) f = draws-then g h i (draws-change b x f) (draws-change b y (fits-change b x f))
 draws-change b (notes {calls} {taken} {s} ns plain) f = draws-none s.next (length calls) (length s.calls)
-draws-change b (slots {calls} {taken} {s} worker) f = draws-none s.next (length calls) (length s.calls)
+draws-change b (slots {s} worker) f = draws-none s.next 0 (length s.calls)
 draws-change b (streams {calls} {taken} {s} xs) f = draws-none s.next (length calls) (length s.calls)
 draws-change b (settles_call {calls} {taken} {s} call outcome names) f = draws-settled s.next (length calls) (length s.calls)
 draws-change b (awaits {calls} {taken} {s} a) f = draws-settled s.next (length calls) (length s.calls)
@@ -355,7 +355,7 @@ draws-change b (settles_awaits {calls} {taken} {s}) f = draws-none s.next (lengt
 -- ---- each micro step, and whole journals
 
 pub fits-entered : (s : State) (m : Micro) (g : Going) → Entered s m g → FitsOn (at_rest s) → FitsOn g
-fits-entered s m g e f = once-entered FitsOn s (λ lane. f) f m g e
+fits-entered s m g e f = once-entered FitsOn s (λ lane. f) (λ worker. f) f m g e
 
 pub fits-step : BuildsFit → (s : State) (m : Micro) → FitsOn (at_rest s) → FitsOn (at_rest (step s m))
 fits-step b s m f = let st = step-is s m in fits-change b st.change (fits-entered s m st.start st.entered f)
@@ -366,7 +366,7 @@ draws-step b s m f =
     draws-then (at_rest s) st.start (at_rest (step s m))
     (once-entered (DrawsOn (at_rest s)) s
     (λ lane. draws-entered s.next 0 (length s.calls) (length (s.calls ++ next_call s.calls lane ∷ [])) (length_push s.calls (next_call s.calls lane)))
-    (draws-none s.next 0 (length s.calls)) m st.start st.entered)
+    (λ worker. draws-none s.next 0 (length s.calls)) (draws-none s.next 0 (length s.calls)) m st.start st.entered)
     (draws-change b st.change (fits-entered s m st.start st.entered f))
 
 pub fit-step : BuildsFit → (s : State) (m : Micro) → IsFit s → IsFit (step s m)

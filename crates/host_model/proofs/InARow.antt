@@ -70,7 +70,7 @@ module _ {X : Type 0} (f : X → ℕ) (p : X → Bool) where
       at true = refl
       at false = refl
 
-  length-picked : (xs : List X) → length (picked xs) ≡ count_by p xs
+  pub length-picked : (xs : List X) → length (picked xs) ≡ count_by p xs
   length-picked xs = length-map (filter p xs) f ∙ length-filter p xs
 
   -- the next one has the next number

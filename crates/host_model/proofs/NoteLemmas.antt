@@ -67,5 +67,5 @@ notes-stand s m =
     let st = step-is s m in
     adds-drop s.notes (step s m).notes
     (adds-then
-    (once-entered (λ (g : Going). Adds s.notes g.state.notes) s (λ lane. none-added s.notes) (none-added s.notes) m st.start st.entered)
+    (once-entered (λ (g : Going). Adds s.notes g.state.notes) s (λ lane. none-added s.notes) (λ worker. none-added s.notes) (none-added s.notes) m st.start st.entered)
     (change-adds st.change))

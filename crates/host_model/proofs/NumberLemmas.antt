@@ -69,7 +69,7 @@ numbered-change (falls_with {calls} {s} roots why) n = numbered-settled (is_unde
 numbered-change settles_awaits n = n
 
 pub numbered-entered : (s : State) (m : Micro) (g : Going) → Entered s m g → NumberedOn (at_rest s) → NumberedOn g
-numbered-entered s m g e n = once-entered NumberedOn s (λ lane. n) n m g e
+numbered-entered s m g e n = once-entered NumberedOn s (λ lane. n) (λ worker. n) n m g e
 
 pub numbered-step : (s : State) (m : Micro) → NumberedOn (at_rest s) → NumberedOn (at_rest (step s m))
 numbered-step s m n = let st = step-is s m in numbered-change st.change (numbered-entered s m st.start st.entered n)

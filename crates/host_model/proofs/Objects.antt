@@ -66,9 +66,11 @@ pub record IsAlike (a b : Object) : Type 0 where
   pub parent : b.parent ≡ a.parent
   pub name : b.name ≡ a.name
   pub far : b.far ≡ a.far
+  pub worker : b.worker ≡ a.worker
+  pub producer : b.producer ≡ a.producer
 
 pub alike-itself : (o : Object) → IsAlike o o
-alike-itself o = record { serial = refl; id = refl; kind = refl; parent = refl; name = refl; far = refl }
+alike-itself o = record { serial = refl; id = refl; kind = refl; parent = refl; name = refl; far = refl; worker = refl; producer = refl }
 
 pub own_id-alike : (seed : ℕ) (a b : Object) → IsAlike a b → HasOwnId seed a → HasOwnId seed b
 own_id-alike seed a b same h =
@@ -96,9 +98,9 @@ KeepsLinks (Far serial) = ⊥
 KeepsLinks other = ⊤
 
 pub marked-alike : (mark : Mark) → KeepsLinks mark → (o : Object) → IsAlike o (marked mark o)
-marked-alike Running keeps o = record { serial = refl; id = refl; kind = refl; parent = refl; name = refl; far = refl }
-marked-alike (Paused b) keeps o = record { serial = refl; id = refl; kind = refl; parent = refl; name = refl; far = refl }
-marked-alike (ProducerPaused b) keeps o = record { serial = refl; id = refl; kind = refl; parent = refl; name = refl; far = refl }
+marked-alike Running keeps o = record { serial = refl; id = refl; kind = refl; parent = refl; name = refl; far = refl; worker = refl; producer = refl }
+marked-alike (Paused b) keeps o = record { serial = refl; id = refl; kind = refl; parent = refl; name = refl; far = refl; worker = refl; producer = refl }
+marked-alike (ProducerPaused b) keeps o = record { serial = refl; id = refl; kind = refl; parent = refl; name = refl; far = refl; worker = refl; producer = refl }
 marked-alike (Far s) keeps o = absurd keeps
 
 -- changed where a test says so
@@ -109,4 +111,4 @@ chosen-alike false o p h = alike-itself o
 pub closed-alike : (objects : List Object) (fallen roots : List Serial) (reason : Reason) (o : Object) → IsAlike o (closed_if objects fallen roots reason o)
 closed-alike objects fallen roots reason o =
     chosen-alike (is_open o && is_among fallen o.serial) o (closed_by (reason_of objects fallen roots reason o) o)
-    (record { serial = refl; id = refl; kind = refl; parent = refl; name = refl; far = refl })
+    (record { serial = refl; id = refl; kind = refl; parent = refl; name = refl; far = refl; worker = refl; producer = refl })

@@ -198,7 +198,7 @@ module _ (b : BuildsFit) where
   opens-step s m h =
       let st = step-is s m in
       let fits = fits-entered s m st.start st.entered h.0 in
-      (fits-change b st.change fits, opens-change st.change fits (once-entered OpensOn s (λ lane. h.1) h.1 m st.start st.entered))
+      (fits-change b st.change fits, opens-change st.change fits (once-entered OpensOn s (λ lane. h.1) (λ worker. h.1) h.1 m st.start st.entered))
 
   pub opened-once : (j : Journal) → EachOpensOnce (state_of j).notes (state_of j).objects
   opened-once j = (along Opens opens-step (start j.seed) j.entries (fits-start j.seed, record { each = λ serial. refl })).1.each

@@ -65,7 +65,7 @@ rises-change : BuildsFit → {g h : Going} → Change g h → FitsOn g → Rises
 rises-change b (still {g}) f = rises-still g.state
 rises-change b (both {g} {h} {i} x y) f = rises-then g.state h.state i.state (rises-change b x f) (rises-change b y (fits-change b x f))
 rises-change b (notes {calls} {taken} {s} ns plain) f = rises-still s
-rises-change b (slots {calls} {taken} {s} worker) f = rises-still s
+rises-change b (slots {s} worker) f = rises-still s
 rises-change b (streams {calls} {taken} {s} xs) f = rises-still s
 rises-change b (settles_call {calls} {taken} {s} call outcome names) f = rises-still s
 rises-change b (awaits {calls} {taken} {s} a) f = rises-still s
@@ -90,7 +90,7 @@ rises-step : BuildsFit → (s : State) (m : Micro) → FitsOn (at_rest s) → Ri
 rises-step b s m f =
     let st = step-is s m in
     rises-then s st.start.state (step s m)
-    (once-entered (λ (g : Going). RisesTo s g.state) s (λ lane. rises-still s) (rises-still s) m st.start st.entered)
+    (once-entered (λ (g : Going). RisesTo s g.state) s (λ lane. rises-still s) (λ worker. rises-still s) (rises-still s) m st.start st.entered)
     (rises-change b st.change (fits-entered s m st.start st.entered f))
 
 pub serials-rise : BuildsFit → (s : State) (m : Micro) → IsFit s → s.next.serial ≤ (step s m).next.serial
@@ -107,7 +107,7 @@ ssrcs-few b s m h = (rises-step b s m h.whole).few
 between-none : (a n : ℕ) → one_if (is_between a a n) ≡ 0
 between-none a n = grind (arith, nat_tests)
 
-between-then : (a b c n : ℕ) → a ≤ b → b ≤ c → one_if (is_between a b n) + one_if (is_between b c n) ≡ one_if (is_between a c n)
+pub between-then : (a b c n : ℕ) → a ≤ b → b ≤ c → one_if (is_between a b n) + one_if (is_between b c n) ≡ one_if (is_between a c n)
 between-then a b c n h k = grind (arith, nat_tests)
 
 -- from one state to another it was drawn so often

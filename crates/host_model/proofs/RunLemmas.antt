@@ -395,7 +395,7 @@ module _ (b : BuildsNew) where
   running-step : (s : State) (m : Micro) → Running s → Running (step s m)
   running-step s m h =
       let st = step-is s m in
-      (no_workers-change b st.change (once-entered NoWorkersOn s (λ lane. h.0) h.0 m st.start st.entered), up-hear s m h.0 h.1)
+      (no_workers-change b st.change (once-entered NoWorkersOn s (λ lane. h.0) (λ worker. h.0) h.0 m st.start st.entered), up-hear s m h.0 h.1)
 
   pub running-up : (j : Journal) → RunningHaveChannels (state_of j)
   running-up j =

@@ -176,7 +176,7 @@ written-change (settles_awaits {calls} {taken} {s}) h =
 
 written : (j : Journal) (worker : WorkerKey) → WrittenTo worker (state_of j).notes (state_of j).requests
 written j =
-    along (λ (s : State). WrittenOn (at_rest s)) (λ s m h. let st = step-is s m in written-change st.change (once-entered WrittenOn s (λ lane. h) h m st.start st.entered))
+    along (λ (s : State). WrittenOn (at_rest s)) (λ s m h. let st = step-is s m in written-change st.change (once-entered WrittenOn s (λ lane. h) (λ worker. h) h m st.start st.entered))
     (start j.seed) j.entries
     (λ w. record { texts = tt; whole = refl })
 

@@ -88,22 +88,22 @@ count-absent q p (x ∷ xs) e = at (p x) e (count-absent q p xs)
 
 -- ---- a key is that of one request at most
 
-abbrev number_of : Issued → ℕ
+abbrev pub number_of : Issued → ℕ
 number_of r = id_in r.request.via
 
-abbrev goes_to : WorkerKey → Issued → Bool
+abbrev pub goes_to : WorkerKey → Issued → Bool
 goes_to w r = is_by w r.request.via
 
-answers-same : (worker : WorkerKey) (id : ℕ) (v : Via) → (is_by worker v && (id_in v == id)) ≡ is_answer_to worker id v
+pub answers-same : (worker : WorkerKey) (id : ℕ) (v : Via) → (is_by worker v && (id_in v == id)) ≡ is_answer_to worker id v
 answers-same worker id (Channel at n) = refl
 answers-same worker id Start = refl
 
-count-same : {X : Type 0} (p q : X → Bool) → ((x : X) → p x ≡ q x) → (xs : List X) → count_by p xs ≡ count_by q xs
+pub count-same : {X : Type 0} (p q : X → Bool) → ((x : X) → p x ≡ q x) → (xs : List X) → count_by p xs ≡ count_by q xs
 count-same p q same [] = refl
 count-same p q same (x ∷ xs) =
     count-cons p x xs ∙ ap (λ b. one_if b + count_by p xs) (same x) ∙ ap (λ n. one_if (q x) + n) (count-same p q same xs) ∙ sym (count-cons q x xs)
 
-one-at_most : (b : Bool) → one_if b ≤ 1
+pub one-at_most : (b : Bool) → one_if b ≤ 1
 one-at_most true = omega arith
 one-at_most false = omega arith
 
@@ -200,7 +200,7 @@ pub starts-step : BuildsFit → (s : State) (m : Micro) → FitsOn (at_rest s) �
 starts-step b s m f st =
     let steps_by = step-is s m in
     starts-change b steps_by.change (fits-entered s m steps_by.start steps_by.entered f)
-    (once-entered StartsOn s (λ lane. st) st m steps_by.start steps_by.entered)
+    (once-entered StartsOn s (λ lane. st) (λ worker. st) st m steps_by.start steps_by.entered)
 
 -- ---- notes
 
@@ -424,7 +424,7 @@ PlacedOn g = ArePlaced g.state.calls
 placed : (j : Journal) → ArePlaced (state_of j).calls
 placed j =
     along (λ (s : State). PlacedOn (at_rest s))
-    (λ s m h. let st = step-is s m in placed-change st.change (once-entered PlacedOn s (λ lane. placed-more s.calls lane h) h m st.start st.entered)) (start j.seed) j.entries
+    (λ s m h. let st = step-is s m in placed-change st.change (once-entered PlacedOn s (λ lane. placed-more s.calls lane h) (λ worker. h) h m st.start st.entered)) (start j.seed) j.entries
     (λ lane. refl)
 
 pub entered-once : (j : Journal) (key : CallKey) → times_entered key (state_of j).calls ≤ 1
@@ -447,8 +447,8 @@ settled-step b s m h =
     let st = step-is s m in
     let fits = fits-entered s m st.start st.entered h.0 in
     let numbers = numbered-entered s m st.start st.entered h.1 in
-    let starts = once-entered StartsOn s (λ lane. h.2) h.2 m st.start st.entered in
-    let balance = once-entered SettlesOn s (λ lane. balanced-entered s lane h.3) h.3 m st.start st.entered in
+    let starts = once-entered StartsOn s (λ lane. h.2) (λ worker. h.2) h.2 m st.start st.entered in
+    let balance = once-entered SettlesOn s (λ lane. balanced-entered s lane h.3) (λ worker. h.3) h.3 m st.start st.entered in
     (fits-change b st.change fits, numbered-change st.change numbers, starts-change b st.change fits starts, balanced-change b st.change fits numbers starts balance)
 
 settled-start : (seed : ℕ) → AreSettled (start seed)

@@ -41,12 +41,12 @@ use Rattle.host_model.proofs.Waiting.{all-fallen, all-settled, all-taken}
 abbrev AreAloneDue : List (Request Due) → Type 0
 AreAloneDue rs = AllByRecursion (λ (r : Request Due). IsAloneDue r.due) rs
 
-record WorkersIn (xs : List Slot) (os : List Object) (rs : List (Request Due)) : Type 0 where
-  workers : AllByRecursion (HasItsWorker os) xs
-  alone : AllByRecursion IsAlone os
-  due : AreAloneDue rs
+pub record WorkersIn (xs : List Slot) (os : List Object) (rs : List (Request Due)) : Type 0 where
+  pub workers : AllByRecursion (HasItsWorker os) xs
+  pub alone : AllByRecursion IsAlone os
+  pub due : AreAloneDue rs
 
-abbrev WorkersOn : Going → Type 0
+abbrev pub WorkersOn : Going → Type 0
 WorkersOn g = WorkersIn g.state.slots g.state.objects (open_of g.taken g.state.requests)
 
 -- ---- what changes
@@ -121,7 +121,7 @@ alone-due k r turn (Some o) keeps h = h.alone
 alone-due k r (Some paused) None keeps h = tt
 alone-due k r None None keeps h = tt
 
-workers-change : BuildsNew → {g h : Going} → Change g h → WorkersOn g → WorkersOn h
+pub workers-change : BuildsNew → {g h : Going} → Change g h → WorkersOn g → WorkersOn h
 workers-change b still w = w
 workers-change b (both x y) w = workers-change b y (workers-change b x w)
 workers-change b (notes ns plain) w = w
@@ -166,5 +166,5 @@ pub workers-step : BuildsFit → BuildsNew → (s : State) (m : Micro) → HaveW
 workers-step fit b s m h =
     let st = step-is s m in
     let here : WorkersOn (at_rest s) = record { workers = h.workers; alone = h.alone; due = h.due } in
-    let now = workers-change b st.change (once-entered WorkersOn s (λ lane. here) here m st.start st.entered) in
+    let now = workers-change b st.change (once-entered WorkersOn s (λ lane. here) (λ worker. here) here m st.start st.entered) in
     record { whole = fits-step fit s m h.whole; workers = now.workers; alone = now.alone; due = now.due }

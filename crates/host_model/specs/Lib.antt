@@ -3,9 +3,11 @@ pub mod Changes
 pub mod Drawn
 pub mod Falls
 pub mod Fit
+pub mod Held
 pub mod Laws
 pub mod Rows
 pub mod Run
+pub mod Settled
 pub mod Sound
 pub mod Standing
 pub mod State

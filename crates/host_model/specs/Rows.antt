@@ -19,7 +19,10 @@ use Rattle.ortc_map.specs.Supported.{supported_codecs}
 use Rattle.rtp_params.specs.Codecs.{codec_in, mime_type_in}
 use Rattle.rtp_params.specs.Reading.{number_of}
 use Rattle.rtp_params.specs.Whole.{caps_in}
-use Rattle.host_model.specs.Run.{transcript_of}
+use Rattle.host_requests.specs.Requests.{is_on, is_start_of}
+use Rattle.host_model.specs.Run.{Journal, transcript_of}
+use Rattle.host_model.specs.Settled.{times_settling}
+use Rattle.host_model.specs.State.{as_serial}
 
 abbrev pub first : WorkerKey
 first = record { slot = 1; generation = 1 }
@@ -71,3 +74,14 @@ an_await_that_is_done_at_once = refl
 pub an_await_that_is_missed : behind (a_router ++ a_close) (entry.Await 3 (codes "d") event.Opened 1 ∷ []) ≡ codes "settled 3 1 missed\n"
 unfolding digits frames_within rest_within message_of packet_in id_bytes id_text chars encode_utf8 is_utf8 serde_json_on_literals router_in caps_in codec_in mime_type_in number_of with_codec supported_codecs
 an_await_that_is_missed = refl
+
+-- in how many micro steps they settle: the requests of the ids 1, 2 and 3, and the one for the start of the Worker
+abbrev pub settlings : List Entry → List ℕ
+settlings entries =
+    let j : Journal = record { seed = 7; entries = entries } in
+    times_settling (is_on first 1) j ∷ times_settling (is_on first 2) j ∷ times_settling (is_on first 3) j ∷ times_settling (is_start_of (as_serial 1)) j ∷ []
+
+-- the first by its response, the second as its Router closes, the start by the Worker's first word; the request to close still waits
+pub how_often_requests_settle : settlings (a_router ++ a_close) ≡ 1 ∷ 1 ∷ 0 ∷ 1 ∷ []
+unfolding digits frames_within rest_within message_of packet_in id_bytes id_text chars encode_utf8 is_utf8 serde_json_on_literals router_in caps_in codec_in mime_type_in number_of with_codec supported_codecs
+how_often_requests_settle = refl

@@ -58,7 +58,7 @@ pub record Stream : Type 0 where
 
 -- What is kept of the open objects, at their serials.
 pub record Tables : Type 0 where
-  -- what a Router can receive and send
+  -- of a Router the codecs that it can receive and send, without header extensions
   pub routers : List (ℕ × Caps)
   -- what a Producer offers
   pub producers : List (ℕ × Offer)

@@ -25,7 +25,7 @@ pub use laws::{
 };
 pub use offer::consumable;
 pub use producer::producer_mapping;
-pub use router::router_caps;
+pub use router::{router_caps, router_codecs};
 
 #[cfg(test)]
 mod consumer_tests;

@@ -1,4 +1,4 @@
-ghost use Rattle.std.specs.Prelude.{◌≡◌, not, find, IfOk};
+ghost use Rattle.std.specs.Prelude.{◌≡◌, [], not, find, IfOk};
 ghost use Rattle.ortc_map.specs.Rules.{Gives, Leaves};
 ghost use Rattle.ortc_map.specs.Supported.{codec_of_row};
 ghost use Rattle.ortc_map.specs.RouterCaps.{has_type, is_number, is_taken, new_type, next_type, router_caps, router_codec, rtx_codec, type_for, with_codec, with_codecs, with_rtx};
@@ -15,22 +15,32 @@ const DYNAMIC_TYPES: [u8; 32] = [
     119, 120, 121, 122, 123, 124, 125, 126, 127, 96, 97, 98, 99,
 ];
 
-/// What a Router of these codecs can receive and send: each as the table has it, under its own payload type, a codec of
-/// video with the one of its retransmissions (RFC 4588) behind it, and all supported header extensions.
+/// What a Router of these codecs can receive and send: its codecs, and all supported header extensions.
+///
+/// Faults: those of `router_codecs`.
+pub fn router_caps(alloc: Global, codecs: &[Codec]) -> Result<Caps, MapFault>
+    ensures { Gives result (router_caps codecs.now) }
+{
+    let codecs = router_codecs(alloc, codecs)?;
+    let exts = all_exts(alloc)?;
+    Ok(Caps {
+        codecs,
+        exts: Items::from_vec(exts),
+    })
+}
+
+/// The codecs of a Router of these codecs: each as the table has it, under its own payload type, a codec of video with the
+/// one of its retransmissions (RFC 4588) behind it.
 ///
 /// Codec by codec the first fault counts: Unsupported `codec` where no supported codec matches, Unsupported `types`
 /// where a payload type is to be drawn and all 32 dynamic ones are taken, TypeError `duplicate_type` where the payload
 /// type is that of an earlier codec of the result.
-pub fn router_caps(alloc: Global, codecs: &[Codec]) -> Result<Caps, MapFault>
-    ensures { Gives result (router_caps codecs.now) }
+pub fn router_codecs(alloc: Global, codecs: &[Codec]) -> Result<Items<Codec>, MapFault>
+    ensures { Gives result (with_codecs [] codecs.now) }
 {
     let mut made = Vec::new(alloc);
     add_codecs(alloc, codecs, &mut made)?;
-    let exts = all_exts(alloc)?;
-    Ok(Caps {
-        codecs: Items::from_vec(made),
-        exts: Items::from_vec(exts),
-    })
+    Ok(Items::from_vec(made))
 }
 
 fn add_codecs(alloc: Global, codecs: &[Codec], made: &mut Vec<Codec>) -> Result<(), MapFault>

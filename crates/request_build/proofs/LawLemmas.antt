@@ -1,9 +1,10 @@
 -- Each request that is built is sound.
-use Rattle.std.proofs.Common.{◌≡◌, ◌≤◌, ◌*◌, ℕ, List, [], ◌∷◌, length, map, Bool, true, false, if◌then◌else◌, Option, Some, None, option_map, Result, Ok, Err, refl, sym, ap, subst, is_some, ◌∙◌, arith}
+use Rattle.std.proofs.Common.{◌≡◌, ◌≤◌, ◌*◌, ℕ, ◌+◌, List, [], ◌∷◌, length, map, Bool, true, false, if◌then◌else◌, Option, Some, None, option_map, Result, Ok, Err, refl, sym, ap, subst, is_some, ◌∙◌, arith}
 use Rattle.std.proofs.lemmas.Bool.{or_from}
 use Rattle.std.proofs.lemmas.List.{length-map}
+use Rattle.std.proofs.lemmas.List.FromFn.{length-range_with_len}
 use Rattle.std.proofs.lemmas.List.Sums.{sum_by-cons}
-use Rattle.std.specs.List.{list_any}
+use Rattle.std.specs.List.{list_any, range_with_len}
 use Rattle.std.specs.Option.{IfSome, unwrap_or}
 use Rattle.std.specs.Prelude.{⊤, nat_le, nat_lt, option_and_then}
 use Rattle.serde_json.specs.Data.{Data, Members, no_members}
@@ -35,14 +36,15 @@ use Rattle.ortc_map.specs.Consumable.{consumable, offered_encoding}
 use Rattle.ortc_map.specs.ConsumerLaws.{DrawsOneOrTwo}
 use Rattle.ortc_map.specs.ConsumerParams.{consumer_params}
 use Rattle.ortc_map.specs.ProducerMapping.{producer_mapping}
-use Rattle.ortc_map.specs.RouterCaps.{router_caps}
+use Rattle.ortc_map.specs.RouterCaps.{with_codecs}
 use Rattle.call_options.specs.Laws.{IsProduceOptions}
 use Rattle.call_options.specs.Options.{caps_options, connect_options, consume_options, pipe_options, piped_consume_options, plain_options, produce_options, router_options}
 use Rattle.call_options.specs.declared.fault.OptionFault.{OptionFault}
 use Rattle.call_options.specs.declared.options.ConsumeOptions.{ConsumeOptions}
 use Rattle.call_options.specs.declared.options.PipeOptions.{PipeOptions}
 use Rattle.call_options.specs.declared.options.ProduceOptions.{ProduceOptions}
-use Rattle.pipe_params.specs.Pipe.{pipe_params}
+use Rattle.pipe_params.specs.Pipe as pipes
+use Rattle.pipe_params.specs.Pipe.{pipe_params, ssrcs_of}
 use Rattle.request_contents.specs.Values.{connect_value, consume_value, direct_value, pipe_value, plain_value, produce_value}
 use Rattle.worker_requests.specs.declared.content.PipeContent.{PipeContent}
 use Rattle.worker_requests.specs.declared.content.PlainContent.{PlainContent}
@@ -50,14 +52,15 @@ use Rattle.request_build.specs.declared.built.BuildFault.{BuildFault}
 use Rattle.request_build.specs.declared.built.Keep.{Keep}
 use Rattle.request_build.specs.declared.built.Keep.TheVariants as keep
 use Rattle.request_build.specs.declared.built.Offer.{Offer}
-use Rattle.request_build.specs.Asks.{Ask, Built, Own, connect_asked, connect_to, consume_asked, consumer_of, direct_asked, drawn, flag_asked, has_id_in, new_consumer, new_object, new_producer, offer_of, own_id, pipe_asked, pipe_of, piped_consume, plain_asked, produce_as, produce_asked, router_asked, simple_consume, ssrcs_drawn, ssrcs_for, Request}
+use Rattle.request_build.specs.Asks.{Ask, Built, Own, connect_asked, connect_to, consume_asked, consumer_of, direct_asked, drawn, flag_asked, has_id_in, kept_of_router, new_consumer, new_object, new_producer, offer_of, own_id, pipe_asked, pipe_of, piped_consume, plain_asked, produce_as, produce_asked, router_asked, simple_consume, ssrcs_drawn, ssrcs_for, Request}
 use Rattle.request_build.specs.Built.{built, built_of, built_part, max_packet, max_slots, object_named}
 use Rattle.request_build.specs.Columns.{Call, CanConsume, Close, Connect, Consume, Direct, Pause, Pipe, PipeRouter, Plain, Produce, Resume, Router, Send, Worker, are_same, found, is_barred, is_of_wrong_kind, is_taken, makes, of_both}
+use Rattle.request_build.specs.Keeps.{IsMapped, IsOfKind, ssrcs_kept}
 use Rattle.request_build.specs.Known.{HasFew, HaveFew, Known, above, kept_at, router_of}
 use Rattle.request_build.specs.Laws.{IsSound, IsSoundIfAsked}
 use Rattle.request_build.specs.Rules.{◌>>=◌, of_mapping, of_options, or_astray, or_refused, refused_where}
 use Rattle.request_build.proofs.KeptLemmas.{looked_up}
-use Rattle.request_build.proofs.MediaLemmas.{few_received, length-piped}
+use Rattle.request_build.proofs.MediaLemmas.{few_received, length-piped, mapped-encodings, mapped-offered, row-drawn, row-offered, row-received}
 use Rattle.request_build.proofs.NamedLemmas.{named-numbered}
 
 -- What the crates below say.
@@ -72,6 +75,8 @@ pub record Lower : Type 0 where
   pub ssrcs : (params : Params) (caps : Caps) (first : ℕ) (mapping : Mapping) → producer_mapping params caps first ≡ Ok mapping
       → map (λ pair. pair.0) mapping.encodings ≡ map (λ encoding. encoding.ssrc) params.encodings
   pub received : (offered : Params) (caps : Caps) (first : ℕ) (params : Params) → consumer_params offered caps first ≡ Ok params → DrawsOneOrTwo first params.encodings
+  pub piped : (offered : Params) (with_rtx : Bool) (first : ℕ)
+      → ssrcs_of (pipe_params offered with_rtx first).encodings ≡ range_with_len first (pipes.ssrcs_drawn with_rtx (length offered.encodings))
 
 -- ---- rules one after another
 
@@ -162,10 +167,17 @@ next-producer k name transport id paused = record { own = refl; on = refl; worke
 next-consumer : (k : Known) (name : List ℕ) (transport producer : Object) (paused : Bool) → IsNext k transport (new_consumer k name transport producer paused)
 next-consumer k name transport producer paused = record { own = refl; on = refl; worker = refl; no_worker = refl; opens = refl; waits = refl; alone = refl }
 
+-- What is kept of an object of a kind, with so many SSRCs, which are the next ones.
+record HasOwn (k : Known) (of_kind : Kind) (keeps : Keep) (ssrcs : ℕ) : Type 0 where
+  kind : IsOfKind of_kind keeps
+  row : ssrcs_kept keeps ≡ range_with_len k.next.ssrc ssrcs
+  mapped : IsMapped keeps
+
 made : (k : Known) (method : List ℕ) (ids : Ids) (content : Option Data) (parent object : Object) (keeps : Keep) (ssrcs : ℕ) → IsWhole content → (Few k → ssrcs ≤ 16)
-    → (Few k → HasFew keeps) → Stands k parent → IsNext k parent object
+    → (Few k → HasFew keeps) → Stands k parent → IsNext k parent object → HasOwn k object.kind keeps ssrcs
     → IsSoundIfAsked k (Ok (Ask (record { method = method; ids = ids; content = content; under = parent.serial; makes = Some object; keeps = keeps; next = drawn k ssrcs })))
-made k method ids content parent object keeps ssrcs whole few kept stands next =
+made k method ids content parent object keeps ssrcs whole few kept stands next own =
+    let many : length (ssrcs_kept keeps) ≡ ssrcs = ap length own.row ∙ length-range_with_len k.next.ssrc ssrcs in
     sound k _ (record {
       whole = request-whole method ids content whole;
       drawn = λ h. record {
@@ -184,29 +196,33 @@ made k method ids content parent object keeps ssrcs whole few kept stands next =
         waits = next.waits;
         alone = next.alone;
       };
+      kept = own.kind;
+      ssrcs = record { row = own.row ∙ ap (range_with_len k.next.ssrc) (sym many); next = ap (λ n. k.next.ssrc + n) (sym many); mapped = own.mapped };
     })
 
 changed : (k : Known) (method : List ℕ) (ids : Ids) (content : Option Data) (object : Object) → IsWhole content
     → IsSoundIfAsked k (Ok (Ask (record { method = method; ids = ids; content = content; under = object.serial; makes = None; keeps = keep.Nothing; next = k.next })))
 changed k method ids content object whole =
-    sound k _ (record { whole = request-whole method ids content whole; drawn = λ h. refl; few = λ h. tt; new = tt })
+    sound k _ (record { whole = request-whole method ids content whole; drawn = λ h. refl; few = λ h. tt; new = tt; kept = refl; ssrcs = record { row = refl; next = omega arith; mapped = tt } })
 
 -- ---- Routers and transports
 
 module _ (lower : Lower) (k : Known) where
   router-sound : (name : List ℕ) (worker : Object) (options : List ℕ) → Stands k worker → IsSoundIfAsked k (router_asked k name worker options)
   router-sound name worker options stands =
-      onward k (of_options (router_options options)) _ (λ codecs _. onward k (of_mapping (router_caps codecs)) _ (λ caps _.
-      made k _ _ None worker _ (keep.Router caps) 0 tt (λ h. omega arith) (λ h. tt) stands (next-object k kind.Router name (own_id k) worker refl)))
+      onward k (of_options (router_options options)) _ (λ given _. onward k (of_mapping (with_codecs [] given)) _ (λ codecs _.
+      made k _ _ None worker _ (keep.Router (kept_of_router codecs)) 0 tt (λ h. omega arith) (λ h. tt) stands (next-object k kind.Router name (own_id k) worker refl) (record { kind = record { router = refl; producer = refl; consumer = refl; pipe = refl }; row = refl; mapped = tt })))
 
   plain-sound : (name : List ℕ) (router : Object) (options : List ℕ) → Stands k router → IsSoundIfAsked k (plain_asked k name router options)
   plain-sound name router options stands =
       onward k (of_options (plain_options options)) _ (λ given _.
-      made k _ _ (Some (plain_value (record { comedia = given.comedia; ip = given.listen_ip }))) router _ keep.Nothing 0 (lower.plain (record { comedia = given.comedia; ip = given.listen_ip })) (λ h. omega arith) (λ h. tt) stands (next-object k kind.Plain name (own_id k) router refl))
+      made k _ _ (Some (plain_value (record { comedia = given.comedia; ip = given.listen_ip }))) router _ keep.Nothing 0 (lower.plain (record { comedia = given.comedia; ip = given.listen_ip })) (λ h. omega arith) (λ h. tt) stands (next-object k kind.Plain name (own_id k) router refl)
+      (record { kind = record { router = refl; producer = refl; consumer = refl; pipe = refl }; row = refl; mapped = tt }))
 
   pipe-of-sound : (name : List ℕ) (router : Object) (given : PipeOptions) → Stands k router → IsSoundIfAsked k (Ok (pipe_of k name router given))
   pipe-of-sound name router given stands =
       made k _ _ (Some (pipe_value (record { enable_rtx = given.enable_rtx; ip = given.listen_ip }))) router _ (keep.Pipe given.enable_rtx) 0 (lower.pipe (record { enable_rtx = given.enable_rtx; ip = given.listen_ip })) (λ h. omega arith) (λ h. tt) stands (next-object k kind.Pipe name (own_id k) router refl)
+      (record { kind = record { router = refl; producer = refl; consumer = refl; pipe = refl }; row = refl; mapped = tt })
 
   pipe-sound : (name : List ℕ) (router : Object) (options : List ℕ) → Stands k router → IsSoundIfAsked k (pipe_asked k name router options)
   pipe-sound name router options stands = onward k (of_options (pipe_options options)) _ (λ given _. pipe-of-sound name router given stands)
@@ -214,6 +230,7 @@ module _ (lower : Lower) (k : Known) where
   direct-sound : (name : List ℕ) (router : Object) → Stands k router → IsSoundIfAsked k (Ok (direct_asked k name router))
   direct-sound name router stands =
       made k _ _ (Some direct_value) router _ keep.Nothing 0 lower.direct (λ h. omega arith) (λ h. tt) stands (next-object k kind.Direct name (own_id k) router refl)
+      (record { kind = record { router = refl; producer = refl; consumer = refl; pipe = refl }; row = refl; mapped = tt })
 
   connect-to-sound : (transport : Object) (to : Tuple) → IsSoundIfAsked k (connect_to k transport to)
   connect-to-sound transport to = onward k (or_astray (above k.objects transport)) _ (λ router _. changed k _ _ (Some (connect_value to)) transport (lower.connect to))
@@ -230,6 +247,17 @@ module _ (lower : Lower) (k : Known) where
       let same = ap length (lower.ssrcs given.params caps k.next.ssrc mapping e) in
       omega (arith, few, same, length-map mapping.encodings offered_encoding, length-map mapping.encodings (λ (pair : ℕ × ℕ). pair.0), length-map given.params.encodings (λ (encoding : Encoding). encoding.ssrc))
 
+  offered-own : (router : Serial) (id : Id) (given : ProduceOptions) (caps : Caps) (mapping : Mapping) → producer_mapping given.params caps k.next.ssrc ≡ Ok mapping
+      → HasOwn k kind.Producer (keep.Producer (offer_of router id given caps mapping)) (length given.params.encodings)
+  unfolding consumable
+  offered-own router id given caps mapping e =
+      record {
+        kind = record { router = refl; producer = refl; consumer = refl; pipe = refl };
+        row = ap (λ (pairs : List (ℕ × ℕ)). ssrcs_of (map offered_encoding pairs)) (mapped-encodings given.params caps k.next.ssrc mapping e)
+            ∙ row-offered k.next.ssrc given.params.encodings;
+        mapped = mapped-offered mapping.encodings;
+      }
+
   small : (n : ℕ) → n ≤ 8 → n ≤ 16
   small n h = omega arith
 
@@ -243,7 +271,8 @@ module _ (lower : Lower) (k : Known) where
       made k _ _ (Some (produce_value given.media given.paused mapping given.params)) transport _ (keep.Producer (offer_of router.serial (unwrap_or given.id (own_id k)) given caps mapping))
       (length given.params.encodings) (lower.produce given.media given.paused mapping given.params) (λ h. small _ (few h))
       (λ h. offered-few router.serial (unwrap_or given.id (own_id k)) given caps mapping (mapping_gave (producer_mapping given.params caps k.next.ssrc) mapping e) (few h)) stands
-      (next-producer k name transport (unwrap_or given.id (own_id k)) given.paused)))))
+      (next-producer k name transport (unwrap_or given.id (own_id k)) given.paused)
+      (offered-own router.serial (unwrap_or given.id (own_id k)) given caps mapping (mapping_gave (producer_mapping given.params caps k.next.ssrc) mapping e))))))
 
   produce-sound : (name : List ℕ) (transport : Object) (options : List ℕ) → Stands k transport → IsSoundIfAsked k (produce_asked k name transport options)
   produce-sound name transport options stands =
@@ -266,10 +295,12 @@ module _ (lower : Lower) (k : Known) where
   drawn-small encodings h = omega (arith, h, drawn-few encodings)
 
   consumer-sound : (name : List ℕ) (router transport producer : Object) (offer : Offer) (params : Params) (paused simple : Bool) → Stands k transport
-      → (Few k → length params.encodings ≤ 8) → IsSoundIfAsked k (Ok (consumer_of k name router transport producer offer params paused simple))
-  consumer-sound name router transport producer offer params paused simple stands few =
+      → (Few k → length params.encodings ≤ 8) → ssrcs_of params.encodings ≡ range_with_len k.next.ssrc (ssrcs_drawn params.encodings)
+      → IsSoundIfAsked k (Ok (consumer_of k name router transport producer offer params paused simple))
+  consumer-sound name router transport producer offer params paused simple stands few row =
       made k _ _ (Some (consume_value offer.media paused offer.params.encodings params simple)) transport _ (keep.Consumer params) (ssrcs_drawn params.encodings) (lower.consume offer.media paused simple offer.params.encodings params)
       (λ h. drawn-small params.encodings (few h)) few stands (next-consumer k name transport producer paused)
+      (record { kind = record { router = refl; producer = refl; consumer = refl; pipe = refl }; row = row; mapped = tt })
 
   piped-few : (serial : Serial) (offer : Offer) (enable_rtx : Bool) → kept_at k.producers serial ≡ Some offer → Few k → length (pipe_params offer.params enable_rtx k.next.ssrc).encodings ≤ 8
   piped-few serial offer enable_rtx e h =
@@ -282,7 +313,9 @@ module _ (lower : Lower) (k : Known) where
       onward k (or_astray (kept_at k.producers producer.serial)) _ (λ offer e.
       onward k (or_astray (kept_at k.pipes transport.serial)) _ (λ enable_rtx _.
       consumer-sound name router transport producer offer (pipe_params offer.params enable_rtx k.next.ssrc) paused false stands
-      (piped-few producer.serial offer enable_rtx (was_found outcome.InvalidState (kept_at k.producers producer.serial) offer e)))))
+      (piped-few producer.serial offer enable_rtx (was_found outcome.InvalidState (kept_at k.producers producer.serial) offer e))
+      (row-drawn k.next.ssrc (pipes.ssrcs_drawn enable_rtx (length offer.params.encodings)) (pipe_params offer.params enable_rtx k.next.ssrc).encodings
+      (lower.piped offer.params enable_rtx k.next.ssrc)))))
 
   simple-sound : (name : List ℕ) (transport producer : Object) (given : ConsumeOptions) → Stands k transport → IsSoundIfAsked k (simple_consume k name transport producer given)
   simple-sound name transport producer given stands =
@@ -291,7 +324,8 @@ module _ (lower : Lower) (k : Known) where
       onward k (refused_where (outcome.Unsupported code.Simulcast) (nat_lt 1 (length offer.params.encodings))) _ (λ _ _.
       onward k (of_mapping (consumer_params offer.params given.caps k.next.ssrc)) _ (λ params e.
       consumer-sound name router transport producer offer params given.paused true stands
-      (λ h. few_received k.next.ssrc params.encodings (lower.received offer.params given.caps k.next.ssrc params (mapping_gave (consumer_params offer.params given.caps k.next.ssrc) params e)))))))
+      (λ h. few_received k.next.ssrc params.encodings (lower.received offer.params given.caps k.next.ssrc params (mapping_gave (consumer_params offer.params given.caps k.next.ssrc) params e)))
+      (row-received k.next.ssrc params.encodings (lower.received offer.params given.caps k.next.ssrc params (mapping_gave (consumer_params offer.params given.caps k.next.ssrc) params e)))))))
 
   consume-sound : (name : List ℕ) (transport producer : Object) (options : List ℕ) → Stands k transport → IsSoundIfAsked k (consume_asked k name transport producer options)
   consume-sound name transport producer options stands =

@@ -1,6 +1,6 @@
 -- The one request of each call, with what it draws: the object that it is to make and what is kept of that once it is open.
 -- This project's own.
-use Rattle.std.specs.Prelude.{ℕ, ◌+◌, List, length, Bool, true, false, ◌||◌, nat_lt, if◌then◌else◌, Option, Some, None, option_and_then, unwrap_or, is_some, Result, Ok}
+use Rattle.std.specs.Prelude.{ℕ, ◌+◌, List, [], length, Bool, true, false, ◌||◌, nat_lt, if◌then◌else◌, Option, Some, None, option_and_then, unwrap_or, is_some, Result, Ok}
 use Rattle.std.specs.List.{list_any, sum_by}
 use Rattle.serde_json.specs.Data.{Data}
 use Rattle.ms_base.specs.Id.{id_bytes}
@@ -14,6 +14,7 @@ use Rattle.ms_base.specs.declared.outcome.Outcome.TheVariants as outcome
 use Rattle.ms_base.specs.declared.tuple.Tuple.{Tuple}
 use Rattle.rtp_params.specs.declared.mapping.Mapping.{Mapping}
 use Rattle.rtp_params.specs.declared.encoding.Encoding.{Encoding}
+use Rattle.rtp_params.specs.declared.codec.Codec.{Codec}
 use Rattle.rtp_params.specs.declared.params.Caps.{Caps}
 use Rattle.rtp_params.specs.declared.params.Params.{Params}
 use Rattle.channel_msgs.specs.declared.message.Ids.{Ids}
@@ -29,7 +30,7 @@ use Rattle.object_tree.specs.Objects.{is_producer, numbered}
 use Rattle.ortc_map.specs.Consumable.{consumable}
 use Rattle.ortc_map.specs.ConsumerParams.{consumer_params}
 use Rattle.ortc_map.specs.ProducerMapping.{producer_mapping}
-use Rattle.ortc_map.specs.RouterCaps.{router_caps}
+use Rattle.ortc_map.specs.RouterCaps.{with_codecs}
 use Rattle.pipe_params.specs.Pipe.{pipe_params}
 use Rattle.call_options.specs.Options.{connect_options, consume_options, pipe_options, piped_consume_options, plain_options, produce_options, router_options}
 use Rattle.call_options.specs.declared.options.ConsumeOptions.{ConsumeOptions}
@@ -102,16 +103,20 @@ changes k asked content object =
 
 -- ---- Routers
 
-abbrev pub router_of_caps : Known → List ℕ → Object → Caps → Built
-router_of_caps k name worker caps =
+-- what is kept of a Router of these codecs: no rule asks for its header extensions, which are the whole table in every Router
+abbrev pub kept_of_router : List Codec → Caps
+kept_of_router codecs = record { codecs = codecs; exts = [] }
+
+abbrev pub router_of_codecs : Known → List ℕ → Object → List Codec → Built
+router_of_codecs k name worker codecs =
     let router : Object = new_object k kind.Router name (own_id k) worker in
-    makes_new k (asked.CreateRouter router.id) None worker router (keep.Router caps) 0
+    makes_new k (asked.CreateRouter router.id) None worker router (keep.Router (kept_of_router codecs)) 0
 
 abbrev pub router_asked : Known → List ℕ → Object → List ℕ → Result Built BuildFault
 router_asked k name worker options = do
-  codecs ← of_options (router_options options)
-  caps ← of_mapping (router_caps codecs)
-  Ok (router_of_caps k name worker caps)
+  given ← of_options (router_options options)
+  codecs ← of_mapping (with_codecs [] given)
+  Ok (router_of_codecs k name worker codecs)
 
 -- ---- transports
 

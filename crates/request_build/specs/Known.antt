@@ -21,7 +21,7 @@ use Rattle.request_build.specs.Counts.{times_in, times_named}
 pub record Known : Type 0 where
   -- open and closed
   pub objects : List Object
-  -- of open objects, under their serials: what a Router can receive and send, what a Producer offers, what a Consumer
+  -- of open objects, under their serials: a Router's codecs, what a Producer offers, what a Consumer
   -- receives, whether an end of a pipe retransmits
   pub routers : List (ℕ × Caps)
   pub producers : List (ℕ × Offer)

@@ -10,6 +10,7 @@ use Rattle.object_tree.specs.Objects.{AreInOrder, numbered}
 use Rattle.request_build.specs.declared.built.BuildFault.{BuildFault}
 use Rattle.request_build.specs.declared.built.Draws.{Draws}
 use Rattle.request_build.specs.Asks.{Built, Ask, Request}
+use Rattle.request_build.specs.Keeps.{KeepsFor, KeepsWhatItDraws}
 use Rattle.request_build.specs.Known.{HasFew, HaveFew, Known}
 
 -- no number of its payload is held as a float, whatever id it is issued with
@@ -45,6 +46,8 @@ pub record IsSound (k : Known) (r : Request) : Type 0 where
   pub drawn : HaveFew k.producers k.consumers → DrawsFor r.makes k.next r.next
   pub few : HaveFew k.producers k.consumers → HasFew r.keeps
   pub new : IfSome r.makes (IsNewUnder k.objects r.under)
+  pub kept : KeepsFor r.makes r.keeps
+  pub ssrcs : KeepsWhatItDraws k.next r.next r.keeps
 
 -- if it is a request at all
 pub record IsSoundIfAsked (k : Known) (x : Result Built BuildFault) : Type 0 where

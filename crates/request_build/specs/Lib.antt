@@ -1,5 +1,6 @@
 pub mod Counts
 pub mod Offers
+pub mod Keeps
 pub mod Known
 pub mod Rules
 pub mod Columns

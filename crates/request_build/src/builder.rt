@@ -200,7 +200,7 @@ impl<'k> Builder<'k> {
         }
     }
 
-    /// What a Router can receive and send.
+    /// The codecs that a Router can receive and send.
     pub(crate) fn caps(&self, router: &Object) -> Result<&Caps, BuildFault>
         ensures ok { IfOk result (λ caps. or_astray (kept_at (known self.now).routers router.now.serial) ≡ Ok caps.now) }
         ensures err { IfErr result (λ e. or_astray (kept_at (known self.now).routers router.now.serial) ≡ Err e) }

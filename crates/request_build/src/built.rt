@@ -38,7 +38,7 @@ pub struct Offer {
 /// What is kept of an object once it is open.
 #[derive(Debug, Drop)]
 pub enum Keep {
-    /// What a Router can receive and send.
+    /// The codecs that a Router can receive and send. Its header extensions, which are those of every Router, aren't kept.
     Router(Caps),
     Producer(Offer),
     /// What a Consumer receives.

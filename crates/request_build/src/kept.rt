@@ -71,7 +71,7 @@ impl<T: Drop> Table<T> {
 /// What a host keeps beside its tree of objects, for the calls that come.
 #[derive(Debug, Drop)]
 pub struct Kept {
-    /// Of each open Router what it can receive and send.
+    /// Of each open Router the codecs that it can receive and send, without header extensions.
     pub routers: Table<Caps>,
     /// Of each open Producer what it offers.
     pub producers: Producers,

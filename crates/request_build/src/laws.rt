@@ -5,6 +5,7 @@ ghost use Rattle.ms_base.specs.declared.op.Op.{Op};
 ghost use Rattle.ms_base.specs.declared.part.Part.{Part};
 ghost use Rattle.request_build.specs.Asks.{Ask, Request};
 ghost use Rattle.request_build.specs.Built.{built, built_part};
+ghost use Rattle.request_build.specs.Keeps.{KeepsFor, KeepsWhatItDraws};
 ghost use Rattle.request_build.specs.Known.{HasFew, HaveFew, Known};
 ghost use Rattle.request_build.specs.Laws.{DrawsFor, HasNoFloat, IsNewUnder, IsSoundIfAsked};
 
@@ -42,6 +43,23 @@ pub fn built_objects_are_new()
     built_requests_are_sound();
 }
 
+/// What is to be kept of a new object has exactly the SSRCs that its request draws, which are numbers in a row from the next one
+/// on, those of retransmissions behind the others; and a Producer's own SSRCs are mapped to those.
+pub fn built_requests_keep_what_they_draw()
+    ensures calls { (k : Known) (op : Op) (request : Request) → built k op ≡ Ok (Ask request) → KeepsWhatItDraws k.next request.next request.keeps }
+    ensures parts { (k : Known) (part : Part) (request : Request) → built_part k part ≡ Ok (Ask request) → KeepsWhatItDraws k.next request.next request.keeps }
+{
+    built_requests_are_sound();
+}
+
+/// Of a new Router, Producer, Consumer or end of a pipe what belongs to its kind is to be kept, and nothing of any other object.
+pub fn built_requests_keep_by_kind()
+    ensures calls { (k : Known) (op : Op) (request : Request) → built k op ≡ Ok (Ask request) → KeepsFor request.makes request.keeps }
+    ensures parts { (k : Known) (part : Part) (request : Request) → built_part k part ≡ Ok (Ask request) → KeepsFor request.makes request.keeps }
+{
+    built_requests_are_sound();
+}
+
 // All laws at once.
 fn built_requests_are_sound()
     ensures calls { (k : Known) (op : Op) → IsSoundIfAsked k (built k op) }
@@ -51,4 +69,5 @@ fn built_requests_are_sound()
     call_options::what_is_read_fits();
     ortc_map::each_codec_is_mapped();
     ortc_map::what_is_received_is_within_the_capabilities();
+    pipe_params::pipe_draws_ssrcs_in_a_row();
 }

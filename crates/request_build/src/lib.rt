@@ -20,7 +20,7 @@ pub use close::build_close;
 pub use kept::{Kept, Table, what_is_kept_has_few_encodings};
 pub use laws::{
     built_objects_are_new, built_requests_draw_few, built_requests_have_whole_numbers,
-    built_requests_keep_few,
+    built_requests_keep_by_kind, built_requests_keep_few, built_requests_keep_what_they_draw,
 };
 pub use names::Names;
 pub use part::build_part;

@@ -2,7 +2,7 @@
 
 ghost use Rattle.std.specs.Prelude.{◌≡◌, ◌≤◌, IfOk, option_map};
 ghost use Rattle.serde_json.specs.View.{view};
-ghost use Rattle.request_build.specs.Asks.{changes, connect_asked, connect_to, direct_asked, drawn, makes_new, new_object, pipe_asked, pipe_of, plain_asked, router_asked, router_of_caps};
+ghost use Rattle.request_build.specs.Asks.{changes, connect_asked, connect_to, direct_asked, drawn, makes_new, new_object, pipe_asked, pipe_of, plain_asked, router_asked, router_of_codecs};
 ghost use Rattle.request_build.specs.Built.{built_view};
 ghost use Rattle.request_build.specs.Known.{known};
 ghost use Rattle.request_build.specs.Rules.{Gives};
@@ -13,9 +13,9 @@ use crate::ids::transport_ids;
 use call_options::{PipeOptions, connect_options, pipe_options, plain_options, router_options};
 use ms_base::{Id, Kind, Name, NoMemory, Serial, Text, Tuple};
 use object_tree::Object;
-use ortc_map::router_caps;
+use ortc_map::router_codecs;
 use request_contents::{ids_of, method_of, write_connect, write_direct, write_pipe, write_plain};
-use rtp_params::Caps;
+use rtp_params::{Caps, Codec, Items};
 use serde_json::Value;
 use worker_requests::{Asked, PipeContent, PlainContent};
 
@@ -111,14 +111,21 @@ impl<'k> Builder<'k> {
     ) -> Result<Built, BuildFault>
         ensures { Gives built_view result (router_asked (known self.now) name.now worker.now options.now) }
     {
-        let codecs = router_options(self.alloc, options)?;
-        let caps = router_caps(self.alloc, codecs.as_slice())?;
-        Ok(self.router_of_caps(name, worker, caps)?)
+        let given = router_options(self.alloc, options)?;
+        let codecs = router_codecs(self.alloc, given.as_slice())?;
+        Ok(self.router_of_codecs(name, worker, codecs)?)
     }
 
-    fn router_of_caps(&self, name: &Name, worker: &Object, caps: Caps) -> Result<Built, NoMemory>
-        ensures { IfOk result (λ b. built_view b ≡ router_of_caps (known self.now) name.now worker.now caps) }
+    fn router_of_codecs(
+        &self,
+        name: &Name,
+        worker: &Object,
+        codecs: Items<Codec>,
+    ) -> Result<Built, NoMemory>
+        ensures { IfOk result (λ b. built_view b ≡ router_of_codecs (known self.now) name.now worker.now codecs) }
     {
+        let exts = Items::from_vec(Vec::new(self.alloc));
+        let caps = Caps { codecs, exts };
         let router = self.new_object(Kind::Router, name, self.own_id(), worker)?;
         let asked = Asked::CreateRouter(router.id);
         self.makes_new(asked, None, worker, router, Keep::Router(caps), 0)

@@ -13,5 +13,6 @@ returns c =
       produced = c.what_is_read_fits.ensures.produced;
       ssrcs = c.each_codec_is_mapped.ensures.ssrcs;
       received = c.what_is_received_is_within_the_capabilities.ensures.ssrcs;
+      piped = c.pipe_draws_ssrcs_in_a_row.ensures.row;
     } in
     record { calls = calls-sound lower; parts = parts-sound lower }
