@@ -1,5 +1,5 @@
 -- What a call comes to by the tables is what it comes to by what is known.
-use Rattle.std.proofs.Common.{◌≡◌, ◌≤◌, ◌<◌, ℕ, ◌+◌, List, [], ◌∷◌, length, nat_le, nat_lt, Bool, true, false, not, ◌||◌, cond, Option, Some, None, option_and_then, Result, Ok, Err, IfOk, refl, sym, ap, ◌∙◌, subst, arith, count_by}
+use Rattle.std.proofs.Common.{◌≡◌, ◌≤◌, ◌<◌, ℕ, ◌+◌, List, [], ◌∷◌, length, ◌⊎◌, inl, inr, nat_le, nat_lt, Bool, true, false, not, ◌||◌, cond, Option, Some, None, option_and_then, Result, Ok, Err, IfOk, refl, sym, ap, ◌∙◌, subst, arith, count_by}
 use Rattle.std.specs.List.{list_any}
 use Rattle.std.proofs.lemmas.Bool.{leb-true, ltb-true, le-leb, lt-ltb}
 use Rattle.serde_json.specs.Data.{Data}
@@ -33,7 +33,7 @@ use Rattle.host_tables.specs.Kept.{IsKept, Seen}
 use Rattle.host_tables.specs.declared.tables.Tables.{Tables}
 use Rattle.host_core.specs.Answers.{IsAnswer, IsAsked, issued_as, placed_as, unnumbered}
 use Rattle.ms_base.specs.declared.fault.NoMemory.{NoMemory}
-use Rattle.host_core.specs.declared.answer.Answer.{Answer}
+use Rattle.host_core.specs.declared.answer.Course.{Course}
 use Rattle.host_core.specs.declared.answer.Placed.{Placed}
 use Rattle.host_core.specs.declared.answer.Placed.TheVariants as placed
 use Rattle.host_core.proofs.Counts.{count-cons}
@@ -143,24 +143,53 @@ text-request r v id e = ap (λ (x : RequestView). compact_text (request_json (re
 
 -- ---- a call that asks nothing of a worker
 
-pub own-other : (s : State) (o : Op) (told : Option Bool) → ((name : List ℕ) (budget : ℕ) → o ≡ op.Worker name budget → ⊥) → ((name : List ℕ) → o ≡ op.Close name → ⊥)
-    → ((producer packet : List ℕ) → o ≡ op.Send producer packet → ⊥) → model.own s o told ≡ model.tells told
-own-other s (op.Worker name budget) told a b c = absurd (a name budget refl)
-own-other s (op.Close name) told a b c = absurd (b name refl)
-own-other s (op.Send producer packet) told a b c = absurd (c producer packet refl)
-own-other s (op.Router name worker options) told a b c = refl
-own-other s (op.Plain name router options) told a b c = refl
-own-other s (op.Pipe name router options) told a b c = refl
-own-other s (op.Direct name router) told a b c = refl
-own-other s (op.Connect transport options) told a b c = refl
-own-other s (op.Produce name transport options) told a b c = refl
-own-other s (op.Consume name transport producer options) told a b c = refl
-own-other s (op.Pause name) told a b c = refl
-own-other s (op.Resume name) told a b c = refl
-own-other s (op.CanConsume producer caps) told a b c = refl
-own-other s (op.PipeRouter name producer router) told a b c = refl
+-- one that isn't of a Worker, a close or a packet
+pub own-other : (s : State) (o : Op) (told : Option Bool)
+    → ((name : List ℕ) × (worker : List ℕ) × (options : List ℕ) × (o ≡ op.Router name worker options)) ⊎ (
+    ((name : List ℕ) × (router : List ℕ) × (options : List ℕ) × (o ≡ op.Plain name router options)) ⊎ (
+    ((name : List ℕ) × (router : List ℕ) × (options : List ℕ) × (o ≡ op.Pipe name router options)) ⊎ (
+    ((name : List ℕ) × (router : List ℕ) × (o ≡ op.Direct name router)) ⊎ (
+    ((transport : List ℕ) × (options : List ℕ) × (o ≡ op.Connect transport options)) ⊎ (
+    ((name : List ℕ) × (transport : List ℕ) × (options : List ℕ) × (o ≡ op.Produce name transport options)) ⊎ (
+    ((name : List ℕ) × (transport : List ℕ) × (producer : List ℕ) × (options : List ℕ) × (o ≡ op.Consume name transport producer options)) ⊎ (
+    ((name : List ℕ) × (o ≡ op.Pause name)) ⊎ (
+    ((name : List ℕ) × (o ≡ op.Resume name)) ⊎ (
+    ((producer : List ℕ) × (caps : List ℕ) × (o ≡ op.CanConsume producer caps)) ⊎ (
+    ((name : List ℕ) × (producer : List ℕ) × (router : List ℕ) × (o ≡ op.PipeRouter name producer router))))))))))))
+    → model.own s o told ≡ model.tells told
+own-other s o told h = elim h [
+  | inl here ↦ ap (λ (x : Op). model.own s x told) here.3
+  | inr later ↦ elim later [
+    | inl here ↦ ap (λ (x : Op). model.own s x told) here.3
+    | inr later ↦ elim later [
+      | inl here ↦ ap (λ (x : Op). model.own s x told) here.3
+      | inr later ↦ elim later [
+        | inl here ↦ ap (λ (x : Op). model.own s x told) here.2
+        | inr later ↦ elim later [
+          | inl here ↦ ap (λ (x : Op). model.own s x told) here.2
+          | inr later ↦ elim later [
+            | inl here ↦ ap (λ (x : Op). model.own s x told) here.3
+            | inr later ↦ elim later [
+              | inl here ↦ ap (λ (x : Op). model.own s x told) here.4
+              | inr later ↦ elim later [
+                | inl here ↦ ap (λ (x : Op). model.own s x told) here.1
+                | inr later ↦ elim later [
+                  | inl here ↦ ap (λ (x : Op). model.own s x told) here.1
+                  | inr later ↦ elim later [
+                    | inl here ↦ ap (λ (x : Op). model.own s x told) here.2
+                    | inr last ↦ ap (λ (x : Op). model.own s x told) last.3
+                  ]
+                ]
+              ]
+            ]
+          ]
+        ]
+      ]
+    ]
+  ]
+]
 
-pub own-answer : (t : Tables) (o : Op) (told : Option Bool) (r : Result Answer NoMemory) → built (keeping.known_of t.tree t.kept t.next) o ≡ Ok (Own told)
+pub own-answer : (t : Tables) (o : Op) (told : Option Bool) (r : Result Course NoMemory) → built (keeping.known_of t.tree t.kept t.next) o ≡ Ok (Own told)
     → IfOk r (λ a. (s : State) → IsKept s t → IsAnswer o a (model.own s o told)) → IfOk r (λ a. (s : State) → IsKept s t → IsAnswer o a (answer s o))
 own-answer t o told (Ok a) e h = λ s k. subst (IsAnswer o a) (sym (answer-as s t k o (Ok (Own told)) e)) (h s k)
 own-answer t o told (Err w) e h = tt

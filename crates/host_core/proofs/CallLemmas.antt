@@ -21,14 +21,14 @@ use Rattle.host_tables.specs.LookUps.{counted}
 use Rattle.host_tables.specs.declared.tables.Tables.{Tables}
 use Rattle.host_core.specs.Answers.{IsAnswer, IsFree, slot_of, worker_of}
 use Rattle.host_core.specs.Tables.{Goes}
-use Rattle.host_core.specs.declared.answer.Answer.{Answer}
-use Rattle.host_core.specs.declared.answer.Answer.TheVariants as code
+use Rattle.host_core.specs.declared.answer.Course.{Course}
+use Rattle.host_core.specs.declared.answer.Course.TheVariants as code
 use Rattle.host_core.proofs.KeptLemmas.{kept-next, kept-tree}
 use Rattle.host_core.proofs.NewLemmas.{IdsDiffer, worker-new}
 
 -- ---- an answer is free
 
-is_free : IdsDiffer → (seed : ℕ) (s : State) (t u : Tables) (a : Answer) → IsSound seed s → IsKept s t → t.next.serial < 2 ^ 32 → u.tree ≡ t.tree → u.next ≡ t.next → IsFree u a
+is_free : IdsDiffer → (seed : ℕ) (s : State) (t u : Tables) (a : Course) → IsSound seed s → IsKept s t → t.next.serial < 2 ^ 32 → u.tree ≡ t.tree → u.next ≡ t.next → IsFree u a
 is_free differ seed s t u (code.AddsWorker name budget) sound k small tree next =
     let objects : u.tree ≡ s.objects = tree ∙ kept-tree s t k in
     let draws : u.next ≡ s.next = next ∙ kept-next s t k in
@@ -36,7 +36,7 @@ is_free differ seed s t u (code.AddsWorker name budget) sound k small tree next 
     subst (λ (p : List Object × Draws). IsNew p.0 (worker_of p.1 name)) (λ i. (sym objects i, sym draws i)) (worker-new differ seed s name sound few)
 is_free differ seed s t u other sound k small tree next = tt
 
-pub called-goes : IdsDiffer → (t a now : Tables) (lane : ℕ) (o : Op) (call : CallKey) (x : Answer) → t.next.serial < 2 ^ 32
+pub called-goes : IdsDiffer → (t a now : Tables) (lane : ℕ) (o : Op) (call : CallKey) (x : Course) → t.next.serial < 2 ^ 32
     → ((s : State) → IsKept s t → IsAnswer o x (answer s o)) → call ≡ call_key lane (counted t.calls lane)
     → Moves (λ s. record s { calls = s.calls ++ call_key lane (calls_of s.calls lane) ∷ [] }) t a → a ≡ record t { calls = a.calls }
     → ((m : model.Answer) → IsAnswer o x m → IsFree a x → Moves (answered call o m) a now) → Goes (called lane o) t now
@@ -66,11 +66,11 @@ module _ (t now : Tables) (call : CallKey) (o : Op) where
 -- ---- a Worker
 
 pub wanted-moves : (t a b c d now : Tables) (call : CallKey) (name : List ℕ) (budget : ℕ) (slot : Slot) → slot ≡ slot_of t.kept.slots name budget (as_serial t.next.serial)
-    → Moves (λ s. record s { requests = with_request (start_request call (as_serial t.next.serial)) s.requests }) t a → Moves (λ s. record s { slots = s.slots ++ slot ∷ [] }) a b
+    → Moves (λ s. record s { slots = s.slots ++ slot ∷ [] }) t a → Moves (λ s. record s { requests = with_request (start_request call (as_serial t.next.serial)) s.requests }) a b
     → Moves (λ s. record s { next = record t.next { serial = t.next.serial + 1 } }) b c
     → (IsNew c.tree (worker_of t.next name) → Moves (object_opened (worker_of t.next name) keep.Nothing) c d) → Moves (noted (note.Spawn slot.key)) d now
     → IsNew t.tree (worker_of t.next name) → Moves (worker_wanted call name budget) t now
-wanted-moves t a b c d now call name budget slot is_slot starts adds draws opens notes new = λ s k.
+wanted-moves t a b c d now call name budget slot is_slot adds starts draws opens notes new = λ s k.
     let drawn : t.next ≡ s.next = kept-next s t k in
     let slots : t.kept.slots ≡ length s.slots = ap (λ (v : Seen). v.slots_made) k.look_ups in
     let slot_now : slot ≡ slot_of (length s.slots) name budget (as_serial s.next.serial) =
@@ -81,7 +81,7 @@ wanted-moves t a b c d now call name budget slot is_slot starts adds draws opens
       slots = s.slots ++ slot ∷ [];
       next = record t.next { serial = t.next.serial + 1 };
     } in
-    let kept : IsKept before c = draws _ (adds _ (starts s k)) in
+    let kept : IsKept before c = draws _ (starts _ (adds s k)) in
     let free : IsNew c.tree (worker_of t.next name) =
     subst (λ (objects : List Object). IsNew objects (worker_of t.next name)) (kept-tree s t k ∙ sym (kept-tree before c kept)) new in
     subst

@@ -117,6 +117,14 @@ module _ (once : StartOnce) (t a b c now : Tables) (x : Slot) (marks : Moves (λ
       now)
       is base
 
+pub starts-as : (b : Bool) (name other : List ℕ) → Some name ≡ cond b (Some other) None → (b ≡ true) × (other ≡ name)
+starts-as true name other e = (refl, cc)
+starts-as false name other e = absurd cc
+
+pub starts-not : (b : Bool) (other : List ℕ) → None ≡ cond b (Some other) None → b ≡ false
+starts-not true other e = absurd cc
+starts-not false other e = refl
+
 -- ---- the slot of a worker that is up
 
 pub up-key : (xs : List Slot) (w : WorkerKey) (x : Slot) → up_slot xs w ≡ Some x → x.key ≡ w

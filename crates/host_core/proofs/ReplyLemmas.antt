@@ -1,26 +1,29 @@
 -- A response is heard by the tables as by what is known.
-use Rattle.std.proofs.Common.{◌≡◌, ◌≤◌, ◌<◌, ◌^◌, ℕ, List, Option, Some, None, sym, ap, ◌∙◌, subst, arith, count_by}
+use Rattle.std.proofs.Common.{◌≡◌, ◌≤◌, ◌<◌, ◌^◌, ℕ, List, [], Option, Some, None, sym, ap, ◌∙◌, subst, arith, count_by}
 use Rattle.std.specs.List.{find}
 use Rattle.serde_json.specs.Data.{Data}
 use Rattle.ms_base.specs.declared.keys.Serial.{Serial}
 use Rattle.ms_base.specs.declared.keys.WorkerKey.{WorkerKey}
 use Rattle.channel_msgs.specs.View.{AnswerView}
+use Rattle.ms_base.specs.declared.outcome.Outcome.TheVariants as outcome
 use Rattle.transcript.specs.declared.note.Note.TheVariants as note
 use Rattle.object_tree.specs.declared.object.Object.{Object}
+use Rattle.pending_calls.specs.declared.waiting.Owner.{Owner}
 use Rattle.request_build.specs.declared.built.Draws.{Draws}
 use Rattle.request_build.specs.declared.built.Keep.{Keep}
+use Rattle.reply_contents.specs.declared.content.Flags.{Flags}
 use Rattle.host_requests.specs.declared.request.Request.{Request}
 use Rattle.host_requests.specs.declared.request.Via.{Via}
 use Rattle.host_requests.specs.Requests.{is_on}
 use Rattle.host_model.specs.declared.due.Due.{Due}
 use Rattle.host_model.specs.declared.due.Due.TheVariants as due
-use Rattle.host_model.specs.Changes.{noted}
+use Rattle.host_model.specs.Changes.{noted, object_opened, owner_settled}
 use Rattle.host_model.specs.Sound.{IsSound}
 use Rattle.host_model.specs.State.{State, settled_where, waiting, waiting_for}
 use Rattle.host_model.specs.Step.{accepted_by, made, opened_by, replied, replied_to, settled_with}
 use Rattle.host_tables.specs.Kept.{IsAlone, IsKept, IsNew, Moves}
 use Rattle.host_tables.specs.declared.tables.Tables.{Tables}
-use Rattle.host_core.specs.Tables.{Goes, IsDueNew}
+use Rattle.host_core.specs.Tables.{Goes, IsDueNew, flagged_by}
 use Rattle.host_core.proofs.KeptLemmas.{kept-next, kept-tree, kept-waits}
 use Rattle.host_core.proofs.NewLemmas.{IdsDiffer, due-new}
 
@@ -56,3 +59,19 @@ pub opens-moves : (t now : Tables) (r : Request Due) (object : Object) (keeps : 
     → IsDueNew t.tree r.due → Moves (accepted_by r.due content r) t now
 opens-moves t now r object keeps content e opens =
     subst (λ (d : Due). IsDueNew t.tree d → Moves (accepted_by d content (record r { due = d })) t now) (sym e) (λ new. opens new r.via r.under)
+
+-- ---- the object that it makes
+
+new-flagged : (objects : List Object) (flags : Option Flags) (o : Object) → IsNew objects o → IsNew objects (flagged_by flags o)
+new-flagged objects None o h = h
+new-flagged objects (Some f) o h = record { fresh = h.fresh; apart = h.apart }
+
+pub opened-moves : (t mid now : Tables) (who : Owner) (object opened : Object) (keeps : Keep) (flags : Option Flags) (found : Option Object) → opened ≡ flagged_by flags object
+    → found ≡ Some (flagged_by flags object) → (IsNew t.tree opened → Moves (object_opened opened keeps) t mid) → Moves (owner_settled who outcome.Done []) mid now
+    → IsNew t.tree object → (via : Via) (under : Serial)
+    → Moves (opened_by (record { via = via; owner = who; under = under; due = due.Opens object keeps }) keeps found) t now
+opened-moves t mid now who object opened keeps flags found is is_found opens settles new via under = λ s k.
+    let free : IsNew t.tree opened = subst (IsNew t.tree) (sym is) (new-flagged t.tree flags object new) in
+    subst (λ (o : Option Object). IsKept (opened_by (record { via = via; owner = who; under = under; due = due.Opens object keeps }) keeps o s) now)
+    (ap Some is ∙ sym is_found)
+    (settles _ (opens free s k))

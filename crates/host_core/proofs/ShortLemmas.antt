@@ -1,5 +1,5 @@
 -- A request without a content is short.
-use Rattle.std.proofs.Common.{◌≤◌, ◌<◌, ℕ, ◌+◌, ◌*◌, ◌/◌, ◌%◌, ◌^◌, List, [], ◌∷◌, ◌++◌, length, nat_lt, Bool, true, false, cond, Option, Some, None, IfSome, option_map, codes, decimal, ap, arith}
+use Rattle.std.proofs.Common.{◌≡◌, ◌≤◌, ◌<◌, ℕ, ◌+◌, ◌*◌, ◌/◌, ◌%◌, ◌^◌, List, [], ◌∷◌, ◌++◌, length, take, drop, length-drop, length-take, nat_lt, Bool, true, false, cond, Option, Some, None, IfSome, option_map, codes, decimal, ap, arith}
 use Rattle.std.proofs.lemmas.Fmt.{length-decimal-le}
 use Rattle.std.proofs.lemmas.List.Concat.{flat_map-cons}
 use Rattle.std.proofs.Math.ListN.{length-append}
@@ -7,15 +7,51 @@ use Rattle.std.specs.Char.{digit_char}
 use Rattle.json.specs.Print.{escape, escape_byte, escape_letter, quoted}
 use Rattle.serde_json.specs.Data.{Data, Members, no_members, member, number, string, unsigned}
 use Rattle.serde_json.specs.Written.{compact_text, comma_if, members_text}
-use Rattle.ms_base.specs.Id.{id_text}
+use Rattle.ms_base.specs.Id.{hyphen, id_text, lower_hex}
 use Rattle.ms_base.specs.declared.id.Id.{Id}
 use Rattle.channel_frames.specs.Frames.{max_payload}
 use Rattle.channel_msgs.specs.Json.{id_json, internal_json, internal_members, optional}
 use Rattle.channel_msgs.specs.declared.message.Ids.{Ids}
 use Rattle.worker_requests.specs.declared.asked.Asked.{Asked}
 use Rattle.worker_requests.specs.declared.asked.Asked.TheVariants as asked
-use Rattle.request_contents.specs.Methods.{ids_of, method_of}
+use Rattle.request_contents.specs.Methods.{method_of}
 use Rattle.host_model.specs.Answer.{payload_of}
+
+-- ---- the text of an id
+
+hex_length : (bytes : List ℕ) → length (lower_hex bytes) ≡ 2 * length bytes
+hex_length [] = omega arith
+hex_length (b ∷ bytes) = omega (arith, hex_length bytes)
+
+behind_length : (text bytes : List ℕ) → length (text ++ hyphen ∷ lower_hex bytes) ≡ length text + 1 + 2 * length bytes
+behind_length text bytes = omega (arith, length-append text (hyphen ∷ lower_hex bytes), hex_length bytes)
+
+groups_length : (a b c d e : List ℕ)
+    → length (lower_hex a ++ hyphen ∷ lower_hex b ++ hyphen ∷ lower_hex c ++ hyphen ∷ lower_hex d ++ hyphen ∷ lower_hex e)
+    ≡ 2 * (length a + length b + length c + length d + length e) + 4
+groups_length a b c d e =
+    omega (
+      arith,
+      hex_length a,
+      behind_length (lower_hex a) b,
+      behind_length (lower_hex a ++ hyphen ∷ lower_hex b) c,
+      behind_length (lower_hex a ++ hyphen ∷ lower_hex b ++ hyphen ∷ lower_hex c) d,
+      behind_length (lower_hex a ++ hyphen ∷ lower_hex b ++ hyphen ∷ lower_hex c ++ hyphen ∷ lower_hex d) e,
+    )
+
+pub id_text_short : (bytes : List ℕ) → length bytes ≡ 16 → length (id_text bytes) ≤ 36
+unfolding id_text
+id_text_short bytes len =
+    omega (
+      arith,
+      len,
+      groups_length (take 4 bytes) (take 2 (drop 4 bytes)) (take 2 (drop 6 bytes)) (take 2 (drop 8 bytes)) (drop 10 bytes),
+      length-take 4 bytes,
+      length-take 2 (drop 4 bytes),
+      length-take 2 (drop 6 bytes),
+      length-take 2 (drop 8 bytes),
+      length-drop 10 bytes,
+    )
 
 -- ---- escapes
 
@@ -112,5 +148,5 @@ payload_short method ids id m h small =
     let internal : length (members_text true inner) ≤ 2000 = omega (arith, member_short true (codes "internal") (internal_json ids) front 1202 400 named last) in
     omega (arith, member_short false (codes "id") (number (unsigned id)) inner 10 2000 digits internal)
 
-pub asked_short : (a : Asked) (id : ℕ) → AreShort (ids_of a) → id < 2 ^ 32 → length (payload_of (method_of a) (ids_of a) None id) ≤ max_payload
-asked_short a id h small = omega (arith, payload_short (method_of a) (ids_of a) id (method_short a) h small)
+pub asked_short : (a : Asked) (ids : Ids) (id : ℕ) → AreShort ids → id < 2 ^ 32 → length (payload_of (method_of a) ids None id) ≤ max_payload
+asked_short a ids id h small = omega (arith, payload_short (method_of a) ids id (method_short a) h small)

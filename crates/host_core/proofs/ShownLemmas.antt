@@ -1,6 +1,5 @@
 -- What is shown stays as it is.
-use Rattle.std.proofs.Common.{◌≡◌, ◌≤◌, ℕ, ◌+◌, List, ◌++◌, length, take, refl, sym, ap, ◌∙◌, arith, take-take, take_all, length-take}
-use Rattle.std.proofs.lemmas.List.{take-append-le}
+use Rattle.std.proofs.Common.{◌≡◌, ◌≤◌, List, length, take, refl, sym, ap, ◌∙◌, arith, take-take, take_all, length-take}
 use Rattle.transcript.specs.declared.note.Note.{Note}
 use Rattle.host_tables.specs.Kept.{ShowsTheSame}
 use Rattle.host_tables.specs.declared.tables.Tables.{Tables}

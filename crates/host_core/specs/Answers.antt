@@ -20,8 +20,8 @@ use Rattle.host_model.specs.State.{Slot, Wanted, as_serial}
 use Rattle.host_model.specs.Step.{due_by}
 use Rattle.host_tables.specs.Kept.{IsNew}
 use Rattle.host_tables.specs.declared.tables.Tables.{Tables}
-use Rattle.host_core.specs.declared.answer.Answer.{Answer}
-use Rattle.host_core.specs.declared.answer.Answer.TheVariants as code
+use Rattle.host_core.specs.declared.answer.Course.{Course}
+use Rattle.host_core.specs.declared.answer.Course.TheVariants as code
 use Rattle.host_core.specs.declared.answer.Placed.{Placed}
 use Rattle.host_core.specs.declared.answer.Placed.TheVariants as placed
 
@@ -36,7 +36,7 @@ pub record IsAsked (o : Op) (under : Serial) (due : Due) (next : Draws) (r : ask
   pub next_is : r.next ≡ next
 
 -- what the code has of an answer to a call is that of this one
-abbrev pub IsAnswer : Op → Answer → model.Answer → Type 0
+abbrev pub IsAnswer : Op → Course → model.Answer → Type 0
 IsAnswer o (code.Refuses outcome) a = a ≡ model.Refuses outcome
 IsAnswer o (code.AddsWorker name budget) a = a ≡ model.AddsWorker name budget
 IsAnswer o (code.Issues channel under due next payload) a = (r : asks.Request) × (a ≡ model.Issues r channel payload) × IsAsked o under due next r
@@ -45,7 +45,7 @@ IsAnswer o (code.Tells told) a = a ≡ model.Tells told
 IsAnswer o (code.Sends channel producer packet) a = a ≡ model.Sends channel producer packet
 
 -- its numbers fit
-abbrev pub IsDue : Tables → Answer → Type 0
+abbrev pub IsDue : Tables → Course → Type 0
 IsDue t (code.AddsWorker name budget) = t.kept.slots < max_slots
 IsDue t (code.Issues channel under due next payload) = (last_on t.requests channel < max_id) × (length payload ≤ max_payload)
 IsDue t (code.Sends channel producer packet) = length packet ≤ max_packet
@@ -65,7 +65,7 @@ abbrev pub unnumbered : asks.Request → RequestView
 unnumbered r = record { id = 0; method = r.method; ids = r.ids; content = r.content }
 
 -- a request with that place
-abbrev pub issued_as : Serial → Due → Draws → Placed → Answer
+abbrev pub issued_as : Serial → Due → Draws → Placed → Course
 issued_as under due next (placed.Refuses outcome) = code.Refuses outcome
 issued_as under due next (placed.Issues channel payload) = code.Issues channel under due next payload
 
@@ -95,6 +95,6 @@ slot_of before name budget worker =
     record { key = record { slot = before + 1; generation = 1 }; name = name; budget = budget; used = 0; phase = Wanted; worker = worker }
 
 -- it can be added to the tree
-abbrev pub IsFree : Tables → Answer → Type 0
+abbrev pub IsFree : Tables → Course → Type 0
 IsFree t (code.AddsWorker name budget) = IsNew t.tree (worker_of t.next name)
 IsFree t other = ⊤

@@ -29,7 +29,7 @@ use request_build::{BuildFault, Built, Draws, Keep, build, built_requests_have_w
 
 /// What a call comes to.
 #[derive(Drop)]
-pub(crate) enum Answer {
+pub(crate) enum Course {
     Refuses {
         outcome: Outcome,
     },
@@ -71,7 +71,7 @@ pub(crate) enum Placed {
 }
 
 /// What a call comes to: its first refusal, a start, a request with its payload, or an answer at once.
-pub(crate) fn answer_to(tables: &Tables, op: &Op) -> Result<Answer, NoMemory>
+pub(crate) fn answer_to(tables: &Tables, op: &Op) -> Result<Course, NoMemory>
     requires room { HasRoom tables.now }
     requires built { is_unbuilt_op op.now ≡ false }
     ensures answer { IfOk result (λ a. (s : State) → IsKept s tables.now → IsAnswer op.now a (answer s op.now)) }
@@ -100,7 +100,7 @@ pub(crate) fn answer_to(tables: &Tables, op: &Op) -> Result<Answer, NoMemory>
             Ok(issue(place(tables, under, request)?, under, due, next))
         }
         Ok(Built::Own { answer }) => own(tables, op, answer),
-        Err(BuildFault::Refused(outcome)) => Ok(Answer::Refuses { outcome }),
+        Err(BuildFault::Refused(outcome)) => Ok(Course::Refuses { outcome }),
         Err(BuildFault::NoMemory) => Err(NoMemory),
     }
 }
@@ -112,7 +112,18 @@ fn turn_of(op: &Op) -> Option<bool>
     match op {
         Op::Pause { .. } => Some(true),
         Op::Resume { .. } => Some(false),
-        _ => None,
+        Op::Worker { .. }
+        | Op::Router { .. }
+        | Op::Plain { .. }
+        | Op::Pipe { .. }
+        | Op::Direct { .. }
+        | Op::Connect { .. }
+        | Op::Produce { .. }
+        | Op::Consume { .. }
+        | Op::Close { .. }
+        | Op::CanConsume { .. }
+        | Op::Send { .. }
+        | Op::PipeRouter { .. } => None,
     }
 }
 
@@ -168,12 +179,12 @@ fn channel_to(tables: &Tables, object: &Object) -> Option<WorkerKey>
 }
 
 // A request, where it goes.
-fn issue(placed: Placed, under: Serial, due: Due, next: Draws) -> Answer
+fn issue(placed: Placed, under: Serial, due: Due, next: Draws) -> Course
     ensures { result ≡ issued_as under due next placed }
 {
     match placed {
-        Placed::Refuses { outcome } => Answer::Refuses { outcome },
-        Placed::Issues { channel, payload } => Answer::Issues {
+        Placed::Refuses { outcome } => Course::Refuses { outcome },
+        Placed::Issues { channel, payload } => Course::Issues {
             channel,
             under,
             due,
@@ -184,31 +195,41 @@ fn issue(placed: Placed, under: Serial, due: Due, next: Draws) -> Answer
 }
 
 // A call that asks nothing of a worker.
-fn own(tables: &Tables, op: &Op, told: Option<bool>) -> Result<Answer, NoMemory>
+fn own(tables: &Tables, op: &Op, told: Option<bool>) -> Result<Course, NoMemory>
     requires { built (known_of tables.now.tree tables.now.kept tables.now.next) op.now ≡ Ok (Own told) }
     ensures answer { IfOk result (λ a. (s : State) → IsKept s tables.now → IsAnswer op.now a (own s op.now told)) }
     ensures due { IfOk result (λ a. IsDue tables.now a) }
 {
     match op {
-        Op::Worker { name, budget } => Ok(Answer::AddsWorker {
+        Op::Worker { name, budget } => Ok(Course::AddsWorker {
             name: name.copy(tables.alloc)?,
             budget: *budget,
         }),
         Op::Close { name } => Ok(closes(tables, name)),
         Op::Send { producer, packet } => sends(tables, producer, packet),
-        _ => Ok(tells(told)),
+        Op::Router { .. }
+        | Op::Plain { .. }
+        | Op::Pipe { .. }
+        | Op::Direct { .. }
+        | Op::Connect { .. }
+        | Op::Produce { .. }
+        | Op::Consume { .. }
+        | Op::Pause { .. }
+        | Op::Resume { .. }
+        | Op::CanConsume { .. }
+        | Op::PipeRouter { .. } => Ok(tells(told)),
     }
 }
 
-fn closes(tables: &Tables, name: &Name) -> Answer
+fn closes(tables: &Tables, name: &Name) -> Course
     ensures answer { (s : State) (o : Op) → IsKept s tables.now → IsAnswer o result (closes (named s.objects name.now)) }
     ensures due { IsDue tables.now result }
 {
     match tables.tree.by_name(name) {
-        Some(object) => Answer::Closes {
+        Some(object) => Course::Closes {
             falls: if_open(object),
         },
-        None => Answer::Refuses {
+        None => Course::Refuses {
             outcome: Outcome::NoName,
         },
     }
@@ -224,35 +245,35 @@ fn if_open(object: &Object) -> Option<Serial>
     }
 }
 
-fn sends(tables: &Tables, producer: &Name, packet: &Bytes) -> Result<Answer, NoMemory>
+fn sends(tables: &Tables, producer: &Name, packet: &Bytes) -> Result<Course, NoMemory>
     requires { length packet.now ≤ max_packet }
     ensures answer { IfOk result (λ a. (s : State) (o : Op) → IsKept s tables.now → IsAnswer o a (sends s packet.now (named s.objects producer.now))) }
     ensures due { IfOk result (λ a. IsDue tables.now a) }
 {
     let Some(object) = tables.tree.by_name(producer) else {
-        return Ok(Answer::Refuses {
+        return Ok(Course::Refuses {
             outcome: Outcome::NoName,
         });
     };
     let Some(channel) = channel_to(tables, object) else {
-        return Ok(Answer::Refuses {
+        return Ok(Course::Refuses {
             outcome: Outcome::InvalidState,
         });
     };
-    Ok(Answer::Sends {
+    Ok(Course::Sends {
         channel,
         producer: object.id,
         packet: packet.copy(tables.alloc)?,
     })
 }
 
-fn tells(told: Option<bool>) -> Answer
+fn tells(told: Option<bool>) -> Course
     ensures answer { (o : Op) → IsAnswer o result (tells told) }
     ensures due { (t : Tables) → IsDue t result }
 {
     match told {
-        Some(answer) => Answer::Tells { answer },
-        None => Answer::Refuses {
+        Some(answer) => Course::Tells { answer },
+        None => Course::Refuses {
             outcome: Outcome::InvalidState,
         },
     }

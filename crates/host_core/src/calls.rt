@@ -12,7 +12,7 @@ ghost use Rattle.host_core.specs.Answers.{IsAnswer, IsDue, IsFree, if_open, slot
 ghost use Rattle.host_core.specs.Apply.{is_unbuilt_op};
 ghost use Rattle.host_core.specs.Tables.{Goes, HasRoom};
 
-use crate::answer::{Answer, answer_to};
+use crate::answer::{Course, answer_to};
 use crate::fall::fall;
 use host_tables::{Phase, Slot, Tables};
 use ms_base::{
@@ -31,23 +31,23 @@ pub(crate) fn call(tables: &mut Tables, lane: u32, op: &Op) -> Result<(), NoMemo
     ensures shown { ShowsTheSame tables.old tables.new }
 {
     ids_differ();
-    let answer = answer_to(tables, op)?;
+    let course = answer_to(tables, op)?;
     let call = tables.enter_call(lane)?;
-    follow(tables, call, op, answer)
+    follow(tables, call, op, course)
 }
 
 // What a call has come to is done.
-fn follow(tables: &mut Tables, call: CallKey, op: &Op, answer: Answer) -> Result<(), NoMemory>
+fn follow(tables: &mut Tables, call: CallKey, op: &Op, course: Course) -> Result<(), NoMemory>
     requires built { is_unbuilt_op op.now ≡ false }
     requires drawn { IsDrawn tables.old.next }
-    requires due { IsDue tables.old answer }
-    ensures ok { OnOk result ((a : model.Answer) → IsAnswer op.now answer a → IsFree tables.old answer → Moves (answered call op.now a) tables.old tables.new) }
+    requires due { IsDue tables.old course }
+    ensures ok { OnOk result ((a : model.Answer) → IsAnswer op.now course a → IsFree tables.old course → Moves (answered call op.now a) tables.old tables.new) }
     ensures shown { ShowsTheSame tables.old tables.new }
 {
-    match answer {
-        Answer::Refuses { outcome } => tables.settle_call(call, outcome, made_by(op)),
-        Answer::AddsWorker { name, budget } => want_worker(tables, call, name, budget),
-        Answer::Issues {
+    match course {
+        Course::Refuses { outcome } => tables.settle_call(call, outcome, made_by(op)),
+        Course::AddsWorker { name, budget } => want_worker(tables, call, name, budget),
+        Course::Issues {
             channel,
             under,
             due,
@@ -58,12 +58,12 @@ fn follow(tables: &mut Tables, call: CallKey, op: &Op, answer: Answer) -> Result
             tables.draw(next);
             Ok(())
         }
-        Answer::Closes { falls } => {
+        Course::Closes { falls } => {
             close(tables, falls)?;
             tables.settle_call(call, Outcome::Done, None)
         }
-        Answer::Tells { answer } => tables.settle_call(call, Outcome::Answer(answer), None),
-        Answer::Sends {
+        Course::Tells { answer } => tables.settle_call(call, Outcome::Answer(answer), None),
+        Course::Sends {
             channel,
             producer,
             packet,
@@ -90,7 +90,13 @@ fn made_by(op: &Op) -> Option<&Name>
         | Op::Direct { name, .. }
         | Op::Produce { name, .. }
         | Op::Consume { name, .. } => Some(name),
-        _ => None,
+        Op::Connect { .. }
+        | Op::Pause { .. }
+        | Op::Resume { .. }
+        | Op::Close { .. }
+        | Op::CanConsume { .. }
+        | Op::Send { .. }
+        | Op::PipeRouter { .. } => None,
     }
 }
 
@@ -116,8 +122,8 @@ fn want_worker(tables: &mut Tables, call: CallKey, name: Name, budget: u32) -> R
     let worker = Serial(next.serial);
     let slot = new_slot(tables.kept.slots, name.copy(tables.alloc)?, budget, worker);
     let key = slot.key;
-    tables.add_start(call, worker)?;
     tables.add_slot(slot)?;
+    tables.add_start(call, worker)?;
     tables.draw(Draws {
         serial: next.serial + 1,
         ..next

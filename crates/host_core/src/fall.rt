@@ -12,7 +12,7 @@ ghost use Rattle.host_tables.specs.Kept.{Moves, ShowsTheSame};
 ghost use Rattle.host_core.specs.Closes.{close_in};
 
 use crate::among::Among;
-use channel_msgs::{Request, write_request};
+use channel_msgs::{Ids, Request, write_request};
 use host_model::Due;
 use host_tables::Tables;
 use ms_base::{Bytes, Id, NoMemory, Reason, Serial, Text, WorkerKey};
@@ -123,21 +123,21 @@ fn close_payload(alloc: Global, asked: &Asked, id: u32) -> Result<Bytes, NoMemor
     ensures text { IfOk result (λ b. b ≡ payload_of (method_of asked.now) (ids_of asked.now) None id) }
     ensures short { IfOk result (λ b. length b ≤ max_payload) }
 {
-    asked_is_short(asked, id);
+    let ids = ids_of(asked);
+    asked_is_short(asked, ids, id);
     let request = Request {
         id,
         method: Text::from_str(alloc, method_of(asked))?,
-        ids: ids_of(asked),
+        ids,
         content: None,
     };
     write_request(alloc, &request)
 }
 
-// A request without a content is short. The function does nothing.
-fn asked_is_short(asked: &Asked, id: u32)
-    ensures { length (payload_of (method_of asked.now) (ids_of asked.now) None id) ≤ max_payload }
+// A request without a content is short, whatever its ids. The function does nothing.
+fn asked_is_short(asked: &Asked, ids: Ids, id: u32)
+    ensures { length (payload_of (method_of asked.now) ids None id) ≤ max_payload }
 {
-    let ids = ids_of(asked);
     id_is_short(ids.router);
     id_is_short(ids.transport);
     id_is_short(ids.producer);
@@ -149,6 +149,13 @@ fn id_is_short(id: Option<Id>)
     ensures { IfSome id (λ id. length (id_text id.0) ≤ 36) }
 {
     if let Some(id) = id {
-        let _text = id.text();
+        let bytes = id.0;
+        text_is_short(&bytes);
     }
 }
+
+// The text of sixteen bytes has 36 characters. The function does nothing.
+#[tactic(auto, using(crate::proofs::ShortLemmas::id_text_short))]
+fn text_is_short(bytes: &[u8; 16])
+    ensures { length (id_text bytes.now) ≤ 36 }
+{}

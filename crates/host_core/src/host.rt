@@ -23,6 +23,7 @@ use crate::readers::Readers;
 use channel_frames::{FrameFault, frames_of_a_cut_stream};
 use host_laws::{draws_are_bounded, journals_go_on, streams_stand};
 use host_model::hosts_are_sound;
+use host_notes::Notes;
 use host_tables::{Phase, Shown, Tables};
 use journal_text::{MAX_JOURNAL, entry_size, head_size};
 use ms_base::{
@@ -180,6 +181,14 @@ impl Host {
         self.tables.notes.as_slice()
     }
 
+    /// All notes, as `notes` gives them. What else the host holds takes no room any more.
+    pub fn into_notes(self) -> Notes
+        ensures { result ≡ notes_of self.journal }
+    {
+        let tables = self.tables;
+        tables.notes
+    }
+
     /// The entries so far, in order.
     pub fn journal(&self) -> &[Entry]
         ensures { result.now ≡ self.now.journal.entries }
@@ -245,7 +254,18 @@ fn is_unbuilt_op(op: &Op) -> bool
     match op {
         Op::Worker { budget, .. } => *budget != 0,
         Op::PipeRouter { .. } => true,
-        _ => false,
+        Op::Router { .. }
+        | Op::Plain { .. }
+        | Op::Pipe { .. }
+        | Op::Direct { .. }
+        | Op::Connect { .. }
+        | Op::Produce { .. }
+        | Op::Consume { .. }
+        | Op::Pause { .. }
+        | Op::Resume { .. }
+        | Op::Close { .. }
+        | Op::CanConsume { .. }
+        | Op::Send { .. } => false,
     }
 }
 
@@ -330,6 +350,8 @@ fn hear_chunk(
         return Ok(());
     }
     readers.feed(worker, bytes)?;
+    // That bytes come is a micro step, as each payload behind it is, and a micro step ends with this. It only looks at awaits of
+    // names of which something has changed, and here nothing has.
     tables.settle_awaits()?;
     hear_payloads(tables, readers, worker)
 }
@@ -352,8 +374,8 @@ fn hear_payloads(
             Ok(Some(payload)) => hear_said(tables, worker, payload.as_slice())?,
             Ok(None) => return Ok(()),
             Err(FrameFault::NoMemory) => return Err(NoMemory),
-            // The stream doesn't break: no entry with a break is built.
-            Err(_) => unreachable!(),
+            // The stream doesn't break: no entry with a break is built. Nothing is written.
+            Err(FrameFault::TooLong { .. } | FrameFault::TooBig) => unreachable!(),
         }
     }
 }

@@ -1,6 +1,6 @@
 //! A worker tells of itself or of one of its objects.
 
-ghost use Rattle.std.specs.Prelude.{◌≡◌, ◌∷◌, [], false, option_copied, option_map, IsTrue, OnOk, Some, IsSomeAnd};
+ghost use Rattle.std.specs.Prelude.{◌≡◌, ◌∷◌, [], false, true, option_copied, option_map, if◌then◌else◌, IfOk, IfSome, IsTrue, OnOk, None, Some, IsSomeAnd};
 ghost use Rattle.channel_msgs.specs.View.{notice_view};
 ghost use Rattle.ms_base.specs.declared.keys.Kind.TheVariants as kind;
 ghost use Rattle.object_tree.specs.Objects.{is_open, is_producer, numbered, open_with_id};
@@ -118,14 +118,21 @@ fn hear_running(tables: &mut Tables, worker: WorkerKey, object: Serial) -> Resul
     ensures ok { OnOk result ((x : Slot) → up_slot tables.old.slots.slots worker ≡ Some x → Goes (says_it_runs (speaker x worker object)) tables.old tables.new) }
     ensures shown { ShowsTheSame tables.old tables.new }
 {
-    if !is_starting(tables, object) {
-        return stray(tables, worker);
+    match starting(tables, worker, object)? {
+        Some(name) => run(tables, worker, object, name),
+        None => stray(tables, worker),
     }
-    let Some(slot) = tables.slots.up(worker) else {
-        return Ok(());
-    };
-    let name = slot.name.copy(tables.alloc)?;
-    run(tables, worker, object, name)
+}
+
+// The name of the Workers of a worker that is up, if this one, its latest, is open and isn't running.
+fn starting(tables: &Tables, worker: WorkerKey, object: Serial) -> Result<Option<Name>, NoMemory>
+    ensures starts { IfOk result (λ found. IfSome found (λ name. is_starting (numbered tables.now.tree object) ≡ true)) }
+    ensures name { IfOk result (λ found. (x : Slot) → up_slot tables.now.slots.slots worker ≡ Some x → found ≡ (if is_starting (numbered tables.now.tree object) then Some x.name else None)) }
+{
+    match tables.slots.up(worker) {
+        Some(slot) if is_starting(tables, object) => Ok(Some(slot.name.copy(tables.alloc)?)),
+        _ => Ok(None),
+    }
 }
 
 // Whether an object is open, and isn't running.

@@ -1,17 +1,15 @@
 -- How the code keeps what the host knows: unsettled requests alone, counts by channel, by lane and by name, and which awaits are to
 -- be looked at. This project's own.
-use Rattle.std.specs.Prelude.{◌≡◌, ◌≤◌, ℕ, ◌+◌, ◌-◌, List, [], ◌∷◌, ◌++◌, length, map, Bool, false, not, ◌&&◌, ◌||◌, count_by, nat_lt, bytes_eq, take, Option, Some, None, IsTrue, is_some}
+use Rattle.std.specs.Prelude.{◌≡◌, ◌≤◌, ℕ, ◌+◌, ◌-◌, List, [], ◌∷◌, ◌++◌, length, map, Bool, false, not, ◌&&◌, count_by, nat_lt, bytes_eq, take, Option, Some, None, IsTrue, is_some}
 use Rattle.std.specs.List.{AllByRecursion, list_any}
 use Rattle.ms_base.specs.declared.id.Id.{Id}
 use Rattle.ms_base.specs.declared.keys.Event.{Event}
-use Rattle.ms_base.specs.declared.keys.Kind.{Kind}
 use Rattle.ms_base.specs.declared.keys.Serial.{Serial}
 use Rattle.ms_base.specs.declared.keys.WorkerKey.{WorkerKey}
 use Rattle.rtp_params.specs.declared.params.Caps.{Caps}
 use Rattle.rtp_params.specs.declared.params.Params.{Params}
 use Rattle.transcript.specs.declared.note.Note.{Note}
 use Rattle.object_tree.specs.declared.object.Object.{Object}
-use Rattle.object_tree.specs.Falls.{is_consumer}
 use Rattle.object_tree.specs.Objects.{is_open, is_producer, named, numbered, open_with_id}
 use Rattle.host_awaits.specs.declared.entered.Await.{Await}
 use Rattle.host_awaits.specs.Awaits.{tells_of, times_noted}
@@ -211,7 +209,3 @@ noted_by (Some n) = n ∷ []
 abbrev pub names_in : Option (List ℕ) → List (List ℕ)
 names_in None = []
 names_in (Some name) = name ∷ []
-
--- a Consumer is quiet while it or its Producer is paused
-abbrev pub is_quiet_as : Kind → Bool → Bool → Bool
-is_quiet_as kind paused producer_paused = paused || (is_consumer kind && producer_paused)

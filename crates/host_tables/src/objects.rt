@@ -1,4 +1,4 @@
-ghost use Rattle.std.specs.Prelude.{◌≡◌, false, true, OnOk};
+ghost use Rattle.std.specs.Prelude.{◌≡◌, false, true, Ok, OnOk};
 ghost use Rattle.host_model.specs.Changes.{object_opened};
 ghost use Rattle.host_tables.specs.Kept.{IsNew, Moves, ShowsTheSame};
 
@@ -13,11 +13,21 @@ impl Tables {
     /// worker and kind has, where that tells it apart. Any other is dropped.
     pub fn open(&mut self, object: Object, keeps: Keep) -> Result<(), NoMemory>
         ensures ok { OnOk result (IsNew self.old.tree object → Moves (object_opened object keeps) self.old self.new) }
+        ensures dropped { (IsNew self.old.tree object → ⊥) → (self.new ≡ self.old) × (result ≡ Ok tt) }
         ensures shown { ShowsTheSame self.old self.new }
     {
         if !self.is_new(&object) {
             return Ok(());
         }
+        self.open_new(object, keeps)
+    }
+
+    // An object that can be added stands in the tree, and so much is kept of it.
+    fn open_new(&mut self, object: Object, keeps: Keep) -> Result<(), NoMemory>
+        requires { IsNew self.old.tree object }
+        ensures ok { OnOk result (Moves (object_opened object keeps) self.old self.new) }
+        ensures shown { ShowsTheSame self.old self.new }
+    {
         let opened = Note::Open {
             serial: object.serial,
             kind: object.kind,

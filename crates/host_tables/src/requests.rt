@@ -4,7 +4,7 @@ ghost use Rattle.ms_base.specs.declared.keys.Serial.{Serial};
 ghost use Rattle.request_build.specs.Counts.{one_if, times_in};
 ghost use Rattle.channel_frames.specs.Frames.{max_payload};
 ghost use Rattle.pending_calls.specs.Pending.{max_id};
-ghost use Rattle.host_requests.specs.Requests.{is_on, is_start_of, last_on};
+ghost use Rattle.host_requests.specs.Requests.{is_on, is_start_of, last_on, others};
 ghost use Rattle.host_model.specs.Changes.{request_issued};
 ghost use Rattle.host_model.specs.State.{offers_as, settled_where, with_request};
 ghost use Rattle.host_model.specs.Step.{start_request};
@@ -102,14 +102,15 @@ impl Tables {
         self.requests.add_start(call, worker, Due::Nothing)
     }
 
-    /// Takes out the request of an id on a channel, if it waits.
+    /// Takes out the request of an id on a channel, if it waits. More than one would all go, and the first be answered.
     pub fn take_request(
         &mut self,
         worker: WorkerKey,
         id: u32,
     ) -> Result<Option<Request<Due>>, NoMemory>
         ensures found { IfOk result (λ taken. taken ≡ find (is_on worker id) self.old.requests.waiting) }
-        ensures none { result ≡ Ok None → Moves (λ s. s) self.old self.new }
+        ensures none { result ≡ Ok None → self.new ≡ self.old }
+        ensures left { OnOk result (self.new.requests ≡ record self.old.requests { waiting = others (is_on worker id) self.old.requests.waiting }) }
         ensures ok { OnOk result (IsAlone (is_on worker id) self.old.requests.waiting → Moves (λ s. record s { requests = settled_where (is_on worker id) s.requests }) self.old self.new) }
         ensures shown { ShowsTheSame self.old self.new }
     {
@@ -120,9 +121,11 @@ impl Tables {
         Ok(Some(request))
     }
 
-    /// Takes out what waits for the start of a Worker.
+    /// Takes out what waits for the start of a Worker. More than one would all go, and the first be answered.
     pub fn take_start(&mut self, worker: Serial) -> Result<Option<Request<Due>>, NoMemory>
         ensures found { IfOk result (λ taken. taken ≡ find (is_start_of worker) self.old.requests.waiting) }
+        ensures none { result ≡ Ok None → self.new ≡ self.old }
+        ensures left { OnOk result (self.new.requests ≡ record self.old.requests { waiting = others (is_start_of worker) self.old.requests.waiting }) }
         ensures ok { OnOk result (IsAlone (is_start_of worker) self.old.requests.waiting → Moves (λ s. record s { requests = settled_where (is_start_of worker) s.requests }) self.old self.new) }
         ensures shown { ShowsTheSame self.old self.new }
     {

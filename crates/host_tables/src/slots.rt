@@ -67,7 +67,8 @@ impl Slot {
     }
 }
 
-// Whether a serial is among these.
+// Whether a serial is among these. They are looked through once for each slot, of which there are 64 at most (`max_slots`): so a
+// fall costs in proportion to what falls.
 fn is_among(serials: &[Serial], serial: Serial) -> bool
     ensures { result ≡ is_among serials.now serial }
 {

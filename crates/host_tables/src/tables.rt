@@ -1,5 +1,6 @@
 ghost use Rattle.std.specs.Prelude.{◌≡◌, ◌+◌, ◌++◌, ◌∷◌, ◌<◌, ◌^◌, [], IfOk, OnOk, option_copied};
 ghost use Rattle.host_notes.specs.Sent.{IsShort};
+ghost use Rattle.request_build.specs.Built.{max_slots};
 ghost use Rattle.host_model.specs.Changes.{call_settled, lost, noted, owner_settled};
 ghost use Rattle.host_model.specs.State.{call_key, calls_of, names_of, start};
 ghost use Rattle.host_model.specs.Step.{awaited, started};
@@ -85,7 +86,8 @@ impl Tables {
         self.notes.push(note)
     }
 
-    /// A call has come to its outcome, which was to make an object of this name, if one.
+    /// A call has come to its outcome. `makes` is the name of the object that it was to make, if one: where the outcome isn't
+    /// `Done`, that name is given up.
     pub fn settle_call(
         &mut self,
         call: CallKey,
@@ -180,16 +182,14 @@ impl Tables {
 
     // ---- slots
 
-    /// One slot more is made. `NoMemory` also comes where 2^32 - 1 were made.
+    /// One slot more is made, of 64 at most (`max_slots`).
     pub fn add_slot(&mut self, slot: Slot) -> Result<(), NoMemory>
+        requires { self.old.kept.slots < max_slots }
         ensures ok { OnOk result (Moves (λ s. record s { slots = s.slots ++ slot ∷ [] }) self.old self.new) }
         ensures shown { ShowsTheSame self.old self.new }
     {
-        let Some(slots) = self.kept.slots.checked_add(1) else {
-            return Err(NoMemory);
-        };
         self.slots.add(slot)?;
-        self.kept.slots = slots;
+        self.kept.slots += 1;
         Ok(())
     }
 

@@ -3,7 +3,7 @@ ghost use Rattle.host_notes.specs.Sent.{IsShort};
 ghost use Rattle.object_tree.specs.declared.object.Mark.TheVariants as marks;
 ghost use Rattle.object_tree.specs.Objects.{is_open, marked, numbered, with_mark};
 ghost use Rattle.host_model.specs.Changes.{is_quiet, turn_notes, turned};
-ghost use Rattle.host_tables.specs.Kept.{Moves, ShowsTheSame, is_quiet_as, noted_by};
+ghost use Rattle.host_tables.specs.Kept.{Moves, ShowsTheSame, noted_by};
 
 use crate::tables::Tables;
 use ms_base::{Kind, NoMemory, Serial};
@@ -48,7 +48,7 @@ fn turn_note(alloc: Global, object: &Object, mark: Mark) -> Result<Option<Note>,
     ensures short { IfOk result (λ note. IfSome note (λ n. IsShort n)) }
 {
     let after = is_quiet_after(object, mark);
-    if is_quiet(object.kind, object.paused, object.producer_paused) == after {
+    if is_quiet_with(object, object.paused, object.producer_paused) == after {
         return Ok(None);
     }
     let name = object.name.copy(alloc)?;
@@ -64,17 +64,17 @@ fn is_quiet_after(object: &Object, mark: Mark) -> bool
     ensures { result ≡ is_quiet (marked mark object.now) }
 {
     match mark {
-        Mark::Paused(paused) => is_quiet(object.kind, paused, object.producer_paused),
-        Mark::ProducerPaused(paused) => is_quiet(object.kind, object.paused, paused),
+        Mark::Paused(paused) => is_quiet_with(object, paused, object.producer_paused),
+        Mark::ProducerPaused(paused) => is_quiet_with(object, object.paused, paused),
         Mark::Running | Mark::Far(_) => {
-            is_quiet(object.kind, object.paused, object.producer_paused)
+            is_quiet_with(object, object.paused, object.producer_paused)
         }
     }
 }
 
-// A Consumer is quiet while it or its Producer is paused.
-fn is_quiet(kind: Kind, paused: bool, producer_paused: bool) -> bool
-    ensures { result ≡ is_quiet_as kind paused producer_paused }
+// Whether an object with these flags is quiet: paused, or a Consumer whose Producer is paused.
+fn is_quiet_with(object: &Object, paused: bool, producer_paused: bool) -> bool
+    ensures { result ≡ is_quiet (record object.now { paused = paused; producer_paused = producer_paused }) }
 {
-    paused || kind == Kind::Consumer && producer_paused
+    paused || object.kind == Kind::Consumer && producer_paused
 }

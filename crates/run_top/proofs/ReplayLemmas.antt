@@ -1,9 +1,8 @@
 -- How a journal is applied, entry by entry, up to the first that is not built.
 use Rattle.std.proofs.Common.{◌≡◌, ℕ, ◌+◌, ◌-◌, ◌≤◌, ◌<◌, ◌^◌, List, [], ◌∷◌, ◌++◌, length, min, Bool, true, false, cond, nat_lt, Option, Some, None, Result, Ok, Err, IfSome, IsOkUnless, refl, sym, ap, ◌∙◌, subst, arith, length-append}
 use Rattle.std.proofs.lemmas.Bool.Decides.{nat_tests}
-use Rattle.std.specs.Iterator.{Yields}
-use Rattle.std.specs.Vec.Iter.{into_iter_items, into_iter_steps}
-use Rattle.std.specs.declared.vec.IntoIter.{IntoIter}
+use Rattle.std.proofs.lemmas.List.{reverse-append}
+use Rattle.std.specs.Prelude.{reverse}
 use Rattle.ms_base.specs.declared.applied.Applied.{Applied}
 use Rattle.ms_base.specs.declared.applied.ApplyFault.{ApplyFault}
 use Rattle.ms_base.specs.declared.applied.ApplyFault.TheVariants as fault
@@ -14,11 +13,12 @@ use Rattle.host_model.specs.Run.{Journal, HostView, after, after_all, state_of}
 use Rattle.host_model.specs.State.{State, start}
 use Rattle.run_top.specs.Replay.{first_unbuilt}
 
--- ---- what the iterator of a vector has given is a front of its items
+-- ---- entries that are left, the next one last
 
-pub taken_front : {X A : Type 0} (s : IntoIter X A) (xs : List X) (t : IntoIter X A) → Yields into_iter_steps s xs t → into_iter_items s ≡ xs ++ into_iter_items t
-taken_front s [] t y = ap into_iter_items y
-taken_front s (x ∷ xs) t y = y.1.0 ∙ ap (λ ys. x ∷ ys) (taken_front y.0 xs t y.2)
+-- the next one stands behind those that were applied, and before those that are left then
+pub next-left : (ys : List Entry) (e : Entry) (left popped rest whole : List Entry) → ys ++ reverse left ≡ whole → left ≡ popped ++ e ∷ [] → rest ≡ popped → whole ≡ ys ++ e ∷ reverse rest
+next-left ys e left popped rest whole all taken same =
+    sym all ∙ ap (λ ws. ys ++ ws) (ap reverse taken ∙ (reverse-append popped (e ∷ []) ∙ ap (λ ws. e ∷ reverse ws) (sym same)))
 
 -- ---- the first that is not built stands behind a front that is built
 

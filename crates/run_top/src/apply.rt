@@ -32,7 +32,9 @@ pub(crate) fn transcript(alloc: Global, seed: u64, entries: Vec<Entry>) -> Resul
         return Err(StopFault::NoMemory);
     };
     apply_all(&mut host, entries)?;
-    match lines_of(alloc, host.notes()) {
+    // The lines are made of the notes alone: the journal and the tables take no room beside them.
+    let notes = host.into_notes();
+    match lines_of(alloc, notes.as_slice()) {
         Ok(lines) => Ok(lines),
         Err(NoMemory) => Err(StopFault::NoMemory),
     }
@@ -48,8 +50,11 @@ fn apply_all(host: &mut Host, entries: Vec<Entry>) -> Result<(), StopFault>
 {
     // A law: a journal within its limit never passes it on the way.
     journals_grow_by_lines();
+    let mut left = entries;
+    left.reverse();
     let mut line = 2u32;
-    for entry in entries {
+    while let Some(entry) = left.pop() {
+        give_back_room(&mut left);
         match host.apply(entry) {
             Ok(_) => {}
             Err(ApplyFault::Unbuilt) => return Err(StopFault::Unbuilt { line }),
@@ -59,6 +64,16 @@ fn apply_all(host: &mut Host, entries: Vec<Entry>) -> Result<(), StopFault>
         line = line.saturating_add(1);
     }
     Ok(())
+}
+
+// A list that gets shorter gives back its room whenever half of it is empty, so that entries don't take it twice: here, and in
+// the host.
+fn give_back_room(left: &mut Vec<Entry>)
+    ensures { left.new.items ≡ left.old.items }
+{
+    if left.len() <= left.capacity() / 2 {
+        left.shrink_to_fit();
+    }
 }
 
 // The lines of the notes, one after another.

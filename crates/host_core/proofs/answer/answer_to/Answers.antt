@@ -11,7 +11,7 @@ use Rattle.host_model.specs.Step.{due_of}
 use Rattle.host_model.specs.Answer as model
 use Rattle.host_model.specs.Answer.{answer, asked}
 use Rattle.host_core.specs.Answers.{IsAnswer, issued_as}
-use Rattle.host_core.specs.declared.answer.Answer.{Answer}
+use Rattle.host_core.specs.declared.answer.Course.{Course}
 use Rattle.host_core.proofs.AnswerLemmas.{answer-as, issued-answer, own-answer}
 use Rattle.host_core.proofs.answer.answer_to.Goals as goal
 
@@ -25,11 +25,11 @@ returns-in_ok-place-in-Ok-Ask-clause-answer c = λ s k.
     let e : built (known_of t.tree t.kept t.next) o ≡ Ok (Ask r) = b.ensures ∙ ap (λ (x : Built). Ok (built_view x)) b.field-0-is in
     let place = c.in_ok-place-in-Ok-Ask.ensures.placed s r k refl refl (c.built_requests_have_whole_numbers.ensures.calls (known_of t.tree t.kept t.next) o r e) in
     let due = sym (c.due_of-due.ensures ∙ ap (λ (x : Option Bool). due_of x b.makes b.keeps) c.turn_of.ensures) in
-    let code : Answer = issued_as b.under c.due_of-due.result b.next c.in_ok-place-in-Ok-Ask.field-0 in
+    let code : Course = issued_as b.under c.due_of-due.result b.next c.in_ok-place-in-Ok-Ask.field-0 in
     let all : IsAnswer o code (asked s r) =
     issued-answer o r b.under c.due_of-due.result b.next c.in_ok-place-in-Ok-Ask.field-0 (asked s r) (record { under_is = refl; due_is = due; next_is = refl }) place in
     let whole : IsAnswer o code (answer s o) = subst (λ (a : model.Answer). IsAnswer o code a) (sym (answer-as s t k o (Ok (Ask r)) e)) all in
-    subst (λ (a : Answer). IsAnswer o a (answer s o)) (sym c.issue.ensures) whole
+    subst (λ (a : Course). IsAnswer o a (answer s o)) (sym c.issue.ensures) whole
 
 pub returns-in-Ok-Own-clause-answer : goal.returns-in-Ok-Own-clause-answer
 returns-in-Ok-Own-clause-answer c =

@@ -1,11 +1,11 @@
 use Rattle.std.proofs.Common.{sym}
 use Rattle.host_requests.specs.Requests.{is_on}
-use Rattle.host_tables.proofs.Making.{none_taken-moves, taken-moves, untaken-moves}
+use Rattle.host_tables.proofs.Making.{none_taken-moves, taken-moves, untaken-same}
 use Rattle.host_tables.proofs.tables.Tables.take_request.Goals as goal
 
 pub returns-in_default-clause-none : goal.returns-in_default-clause-none
 returns-in_default-clause-none c = λ _.
-    untaken-moves c.args.self.now (is_on c.args.worker c.args.id) c.settle.new.self c.in_default.ensures.rest (sym c.in_default.ensures.found)
+    untaken-same c.args.self.now (is_on c.args.worker c.args.id) c.settle.new.self c.in_default.ensures.rest (sym c.in_default.ensures.found)
 
 pub returns-in_default-clause-ok : goal.returns-in_default-clause-ok
 returns-in_default-clause-ok c = λ _.

@@ -1,7 +1,11 @@
 use Rattle.std.proofs.Common.{sym}
 use Rattle.host_requests.specs.Requests.{is_start_of}
-use Rattle.host_tables.proofs.Making.{none_taken-moves, taken-moves}
+use Rattle.host_tables.proofs.Making.{none_taken-moves, taken-moves, untaken-same}
 use Rattle.host_tables.proofs.tables.Tables.take_start.Goals as goal
+
+pub returns-in_default-clause-none : goal.returns-in_default-clause-none
+returns-in_default-clause-none c = λ _.
+    untaken-same c.args.self.now (is_start_of c.args.worker) c.settle_start.new.self c.in_default.ensures.rest (sym c.in_default.ensures.found)
 
 pub returns-in_default-clause-ok : goal.returns-in_default-clause-ok
 returns-in_default-clause-ok c = λ _.
