@@ -22,7 +22,7 @@ same-bytes a b = (bytes_decides a b).0
 pub swapped : (a b : List ℕ) → bytes_eq a b ≡ bytes_eq b a
 swapped a b = nat_list_eq_equiv.symm a b
 
-abbrev Entry : Type 0
+abbrev pub Entry : Type 0
 Entry = List ℕ × RouterState
 
 abbrev kept : Id → List RouterAt → List RouterAt
@@ -91,10 +91,10 @@ pushed (x ∷ es) e = ap (λ (rest : List RouterAt). router_at x ∷ rest) (push
 
 -- ---- one is changed
 
-others-differ : (i k : List ℕ) (ks : List (List ℕ)) → i ≡ k → AllByRecursion (λ y. bytes_eq k y ≡ false) ks → AllByRecursion (λ y. bytes_eq i y ≡ false) ks
+pub others-differ : (i k : List ℕ) (ks : List (List ℕ)) → i ≡ k → AllByRecursion (λ y. bytes_eq k y ≡ false) ks → AllByRecursion (λ y. bytes_eq i y ≡ false) ks
 others-differ i k ks same none = subst (λ b. AllByRecursion (λ y. bytes_eq b y ≡ false) ks) (sym same) none
 
-unmatched : (i : List ℕ) (es : List Entry) → AllByRecursion (λ k. bytes_eq i k ≡ false) (keys_of es) → lookup (bytes_eq i) es ≡ None
+pub unmatched : (i : List ℕ) (es : List Entry) → AllByRecursion (λ k. bytes_eq i k ≡ false) (keys_of es) → lookup (bytes_eq i) es ≡ None
 unmatched i [] none = refl
 unmatched i (e ∷ es) none =
     ap (λ (c : Bool). cond c (Some e.1) (lookup (bytes_eq i) es)) none.0 ∙ unmatched i es none.1

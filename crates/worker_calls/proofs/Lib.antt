@@ -1,4 +1,6 @@
 mod EntryLemmas
+mod LinkLemmas
+mod PlaceLemmas
 mod PlanLemmas
 mod SsrcLemmas
 mod TableLemmas

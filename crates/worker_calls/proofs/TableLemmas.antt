@@ -1,5 +1,5 @@
 -- Tables that tell of each key the earliest item.
-use Rattle.std.proofs.Common.{◌≡◌, ℕ, suc, ◌+◌, ◌≤◌, ◌&&◌, List, [], ◌∷◌, ◌++◌, length, Bool, true, false, cond, nat_lt, Option, Some, None, is_some, bytes_eq, refl, sym, ap, ◌∙◌, true≢false, arith}
+use Rattle.std.proofs.Common.{◌≡◌, ℕ, suc, ◌+◌, ◌≤◌, ◌&&◌, List, [], ◌∷◌, ◌++◌, length, filter, Bool, true, false, not, cond, nat_eq, nat_lt, Option, Some, None, is_some, bytes_eq, refl, sym, ap, subst, ◌∙◌, true≢false, arith}
 use Rattle.std.specs.Cmp.Lexicographic.{bytes_decides}
 use Rattle.std.specs.HashMap.{HashMap, hash_map_len, spare}
 use Rattle.std.specs.List.{find}
@@ -69,3 +69,85 @@ same-ids a b t =
     let router : a.router.0 ≡ b.router.0 = (bytes_decides a.router.0 b.router.0).0 (and-left (bytes_eq a.router.0 b.router.0) (bytes_eq a.transport.0 b.transport.0) t) in
     let transport : a.transport.0 ≡ b.transport.0 = (bytes_decides a.transport.0 b.transport.0).0 (and-right (bytes_eq a.router.0 b.router.0) (bytes_eq a.transport.0 b.transport.0) t) in
     (λ i. (router i, transport i))
+
+-- ---- one item is taken out
+
+module _ {X : Type 0} (keep : X → Bool) where
+  kept-find : (t : X → Bool) (x : X) (xs : List X) (b k : Bool) → t x ≡ b → keep x ≡ k → (t x ≡ true → keep x ≡ true) → find t (filter keep xs) ≡ find t xs
+      → find t (cond k (x ∷ filter keep xs) (filter keep xs)) ≡ cond b (Some x) (find t xs)
+  kept-find t x xs b true e f h more = ap (λ c. cond c (Some x) (find t (filter keep xs))) e ∙ ap (λ o. cond b (Some x) o) more
+  kept-find t x xs true false e f h more = absurd (true≢false (sym (h e) ∙ f))
+  kept-find t x xs false false e f h more = more
+
+  -- what is looked for is kept
+  pub find-kept : (t : X → Bool) (xs : List X) → ((x : X) → t x ≡ true → keep x ≡ true) → find t (filter keep xs) ≡ find t xs
+  find-kept t [] h = refl
+  find-kept t (x ∷ xs) h = kept-find t x xs (t x) (keep x) refl refl (h x) (find-kept t xs h)
+
+  dropped-find : (t : X → Bool) (x : X) (xs : List X) (k : Bool) → keep x ≡ k → (t x ≡ true → keep x ≡ false) → find t (filter keep xs) ≡ None
+      → find t (cond k (x ∷ filter keep xs) (filter keep xs)) ≡ None
+  dropped-find t x xs true e h more = ap (λ c. cond c (Some x) (find t (filter keep xs))) (unwanted (t x) refl) ∙ more
+    where
+      unwanted : (b : Bool) → t x ≡ b → b ≡ false
+      unwanted false f = refl
+      unwanted true f = absurd (true≢false (sym e ∙ h f))
+  dropped-find t x xs false e h more = more
+
+  -- what is looked for is not
+  pub find-dropped : (t : X → Bool) (xs : List X) → ((x : X) → t x ≡ true → keep x ≡ false) → find t (filter keep xs) ≡ None
+  find-dropped t [] h = refl
+  find-dropped t (x ∷ xs) h = dropped-find t x xs (keep x) refl (h x) (find-dropped t xs h)
+
+  no-longer-at : (x : X) (xs : List X) (k : Bool) → length (filter keep xs) ≤ length xs → length (cond k (x ∷ filter keep xs) (filter keep xs)) ≤ suc (length xs)
+  no-longer-at x xs true h = omega arith
+  no-longer-at x xs false h = omega arith
+
+  no-longer : (xs : List X) → length (filter keep xs) ≤ length xs
+  no-longer [] = omega arith
+  no-longer (x ∷ xs) = no-longer-at x xs (keep x) (no-longer xs)
+
+  all-at : (x : X) (xs : List X) (k : Bool) → length (filter keep xs) ≤ length xs → length (cond k (x ∷ filter keep xs) (filter keep xs)) ≡ suc (length xs)
+      → (length (filter keep xs) ≡ length xs → filter keep xs ≡ xs) → cond k (x ∷ filter keep xs) (filter keep xs) ≡ x ∷ xs
+  all-at x xs true le e more = ap (λ ys. x ∷ ys) (more (omega arith))
+  all-at x xs false le e more = absurd (omega arith)
+
+  all-kept : (xs : List X) → length (filter keep xs) ≡ length xs → filter keep xs ≡ xs
+  all-kept [] e = refl
+  all-kept (x ∷ xs) e = all-at x xs (keep x) (no-longer xs) e (all-kept xs)
+
+module _ {X : Type 0} (p t : X → Bool) (x : X) (other : t x ≡ false) where
+  once-at : (y : X) (ys : List X) (b : Bool) → cond b (Some y) (find p ys) ≡ Some x
+      → length (cond (not b) (y ∷ filter (λ z. not (p z)) ys) (filter (λ z. not (p z)) ys)) + 1 ≡ suc (length ys)
+      → (find p ys ≡ Some x → length (filter (λ z. not (p z)) ys) + 1 ≡ length ys → find t (filter (λ z. not (p z)) ys) ≡ find t ys)
+      → find t (cond (not b) (y ∷ filter (λ z. not (p z)) ys) (filter (λ z. not (p z)) ys)) ≡ cond (t y) (Some y) (find t ys)
+  once-at y ys true found one more =
+      let this : y ≡ x = cc in
+      ap (find t) (all-kept (λ z. not (p z)) ys (omega arith)) ∙ sym (ap (λ c. cond c (Some y) (find t ys)) (ap t this ∙ other))
+  once-at y ys false found one more = ap (λ o. cond (t y) (Some y) o) (more found (omega arith))
+
+  -- without the one item that passes a test, another is found as before
+  pub once : (xs : List X) → find p xs ≡ Some x → length (filter (λ y. not (p y)) xs) + 1 ≡ length xs → find t (filter (λ y. not (p y)) xs) ≡ find t xs
+  once [] found one = refl
+  once (y ∷ ys) found one = once-at y ys (p y) found one (once ys)
+
+module _ {X : Type 0} (p t : X → Bool) (x : X) (so : t x ≡ true) where
+  some-at : (y : X) (ys : List X) (b c : Bool) → t y ≡ c → cond b (Some y) (find p ys) ≡ Some x → (find p ys ≡ Some x → is_some (find t ys) ≡ true) → is_some (cond c (Some y) (find t ys)) ≡ true
+  some-at y ys b true e found more = refl
+  some-at y ys true false e found more = let this : y ≡ x = cc in absurd (true≢false (sym so ∙ (ap t (sym this) ∙ e)))
+  some-at y ys false false e found more = more found
+
+  -- an item that is there is found by any test that it passes
+  pub some-found : (xs : List X) → find p xs ≡ Some x → is_some (find t xs) ≡ true
+  some-found [] found = absurd (true≢false (sym (ap is_some found)))
+  some-found (y ∷ ys) found = some-at y ys (p y) (t y) refl found (some-found ys)
+
+pub roomy-pop : {K X S : Type 0} (old new : HashMap K X S) (n m : ℕ) (b : Bool) → IsRoomyFor n old → m + 1 ≡ n → b ≡ true → hash_map_len new + cond b 1 0 ≡ hash_map_len old → spare old ≤ spare new
+    → IsRoomyFor m new
+roomy-pop old new n m true roomy one there less room =
+    let entries : hash_map_len old ≤ n = roomy.entries in
+    let places : n ≤ hash_map_len old + spare old = roomy.room in
+    record { entries = omega arith; room = omega arith }
+roomy-pop old new n m false roomy one there less room = absurd (true≢false (sym there))
+
+pub same-is : (a b : Place) → same_place a b ≡ true → a ≡ b
+same-is a b t = let h = same-ids a b t in (λ i. record { router = record { 0 = (h i).0 }; transport = record { 0 = (h i).1 } })

@@ -23,7 +23,7 @@ impl Place {
         }
     }
 
-    fn is(self, other: Place) -> bool
+    pub(crate) fn is(self, other: Place) -> bool
         ensures { result ≡ same_place self other }
     {
         self.router.0 == other.router.0 && self.transport.0 == other.transport.0

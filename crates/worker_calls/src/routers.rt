@@ -1,6 +1,6 @@
 //! The Routers of a worker.
 
-ghost use Rattle.std.specs.Prelude.{◌≡◌, ◌∷◌, ◌++◌, [], find, filter, not, is_some, false, OnOk, OnErr, option_map, option_copied};
+ghost use Rattle.std.specs.Prelude.{◌≡◌, ◌∷◌, ◌++◌, [], find, filter, not, is_some, false, slice_get, OnOk, OnErr, option_map, option_and_then, option_copied};
 ghost use Rattle.worker_router.specs.State.{nothing_yet, same_id};
 ghost use Rattle.std.specs.Borrow.{sem};
 ghost use Rattle.std.specs.Option.{option_copied_mut};
@@ -21,6 +21,8 @@ use worker_router::WorkerRouter;
 #[derive(Debug, Drop)]
 pub(crate) struct Routers {
     routers: IndexMap<[u8; 16], WorkerRouter>,
+    /// Where the Router stands that was lent last, as far as is known.
+    lent: usize,
 }
 
 impl Model for Routers {
@@ -39,6 +41,7 @@ impl Routers {
     {
         Routers {
             routers: IndexMap::new(alloc),
+            lent: 0,
         }
     }
 
@@ -46,14 +49,29 @@ impl Routers {
     pub(crate) fn differ(&self)
         ensures { AreDifferent (λ r. r.id) self.now }
     {
-        let _place = self.routers.get_index_of(&[0; 16]);
+        let _count = self.routers.len();
     }
 
     /// The Router of this id.
     pub(crate) fn get(&self, id: Id) -> Option<&WorkerRouter>
         ensures { option_map (at id) (option_copied result) ≡ find (λ r. same_id r.id id) self.now }
     {
-        self.routers.get(&id.0)
+        let index = self.index_of(id)?;
+        let (_key, router) = self.routers.get_index(index)?;
+        Some(router)
+    }
+
+    // Where the Router of this id stands, if it is there. It is looked for where the last one was lent first.
+    fn index_of(&self, id: Id) -> Option<usize>
+        ensures { option_and_then (slice_get self.now) result ≡ find (λ r. same_id r.id id) self.now }
+    {
+        if let Some((key, _router)) = self.routers.get_index(self.lent) {
+            if *key == id.0 {
+                return Some(self.lent);
+            }
+        }
+        let (index, _key, _router) = self.routers.get_full(&id.0)?;
+        Some(index)
     }
 
     /// The Router of this id, to be changed.
@@ -61,7 +79,9 @@ impl Routers {
         ensures* lends { sem 𝓛 (LendsOne self.entry id result) }
         ensures value { option_map (at id) (option_copied_mut result) ≡ find (λ r. same_id r.id id) self.old }
     {
-        self.routers.get_mut(&id.0)
+        let index = self.index_of(id)?;
+        self.lent = index;
+        self.routers.get_index_mut(index)
     }
 
     /// Whether the Producer stands in the Router.

@@ -85,6 +85,10 @@ impl Worker {
 
     /// Hears the port that the link which waits was bound to, or none where that failed: then its transport is made, or
     /// not, and the reply follows. Where no link waits nothing happens.
+    ///
+    /// A request that came while the link waited may have taken the id of its transport. The Router has one transport of
+    /// an id, so this is answered as if memory had run out. It can't occur where the answer to each
+    /// [`Act::Bind`] comes before the next request.
     pub fn on_bound(&mut self, port: Option<u16>, into: &mut Vec<Act>) -> Result<(), NoMemory>
         ensures state { OnOk result (self.new ≡ after_bound self.old port) }
         ensures acts { OnOk result (map outgoing into.new.items ≡ map outgoing into.old.items ++ out_bound self.old port) }
@@ -116,6 +120,14 @@ impl Worker {
         ensures { result ≡ option_map (λ l. l.link) (link_of self.now place) }
     {
         self.links.link_of(place)
+    }
+
+    /// The number of a transport's link, as [`Worker::link_of`] tells it. It is looked for at a place first: that is then
+    /// where it stands, until links are made or closed.
+    pub fn link_near(&self, place: Place, near: &mut usize) -> Option<u32>
+        ensures { result ≡ option_map (λ l. l.link) (link_of self.now place) }
+    {
+        self.links.link_near(place, near)
     }
 
     /// The earliest made of the Producers of direct transports with this id: the ids of its Router and of itself.

@@ -44,7 +44,7 @@ change-nothing k (r ∷ rs) = let rest = change-nothing k rs in ap (λ x. x ∷ 
     either true = refl
     either false = refl
 
-lent-same : (k : Id) (w : Worker) (r s : RouterState) → Differ (λ (x : RouterAt). x.id) w.routers → Some (at k r) ≡ router_of w k → s ≡ r → change_router k (λ _. s) w ≡ w
+pub lent-same : (k : Id) (w : Worker) (r s : RouterState) → Differ (λ (x : RouterAt). x.id) w.routers → Some (at k r) ≡ router_of w k → s ≡ r → change_router k (λ _. s) w ≡ w
 lent-same k w r s differ found e =
     ap (with_routers w) (change-same (λ (x : RouterAt). x.id) (λ x. record x { router = s }) (λ x. x) k w.routers (at k r) differ (sym found) (ap (at k) e) ∙ change-nothing k w.routers)
 

@@ -76,7 +76,7 @@ impl Engine {
     }
 
     /// Hears which port the link has got that waits for one, or that it could not be opened, and adds what is to be
-    /// done behind the acts that are there.
+    /// done behind the acts that are there. It is to come before the next payload, as [`Worker::on_bound`] says.
     pub fn on_bound(&mut self, port: Option<u16>, into: &mut Vec<Act>) -> Result<(), NoMemory>
         ensures state { OnOk result (self.new ≡ after_bound self.old port) }
         ensures acts { OnOk result (map outgoing into.new.items ≡ map outgoing into.old.items ++ out_bound self.old port) }

@@ -9,7 +9,7 @@ ghost use Rattle.worker_engine.specs.Forwarding.{targets, passed_one, behind_one
 
 use crate::framing::{FRAME_HEAD, frame_packet, frame_tuple};
 use crate::incoming::Incoming;
-use crate::lent::pass_to;
+use crate::lent::{note, pass_to};
 use ms_base::{Id, Tuple};
 use ms_devices::{Failed, Outbox};
 use worker_calls::{Place, Worker};
@@ -35,8 +35,8 @@ pub(crate) fn forward<O: Outbox>(
 {
     let mut place = 0;
     while let Some(passed) = pass(worker, incoming, place, buffer) {
+        send(worker, incoming, place, passed, buffer, outbox)?;
         place += 1;
-        send(worker, incoming, passed, buffer, outbox)?;
     }
     Ok(())
 }
@@ -79,30 +79,28 @@ fn pass(
     pass_to(worker, incoming, place, room)
 }
 
-// Sends what a Consumer has passed on of the packet, if it did: to the other end of its transport, or as a payload for
-// its id.
+// Sends what the Consumer at a place has passed on of the packet, if it did: to the other end of its transport, or as a
+// payload for its id.
 fn send<O: Outbox>(
-    worker: &Worker,
+    worker: &mut Worker,
     incoming: &Incoming<'_>,
+    place: usize,
     passed: Passed,
     buffer: &mut [u8],
     outbox: &mut O,
 ) -> Result<(), Failed>
     requires room { length buffer.old ≡ BUFFER }
     requires limit { IfSome passed.length (λ n. n ≤ 65535) }
-    ensures told { OnOk result (Made (map call_of (listed (sent_of worker.now incoming.now.router passed (drop FRAME_HEAD buffer.old)))) (O.link_faults outbox.old) (O.link_faults outbox.new) (O.calls outbox.old) (O.calls outbox.new)) }
-    ensures err { OnErr result (StopsAtAFault (listed (sent_of worker.now incoming.now.router passed (drop FRAME_HEAD buffer.old))) (O.link_faults outbox.old) (O.link_faults outbox.new) (O.calls outbox.old) (O.calls outbox.new)) }
+    ensures state { worker.new ≡ worker.old }
+    ensures told { OnOk result (Made (map call_of (listed (sent_of worker.old incoming.now.router passed (drop FRAME_HEAD buffer.old)))) (O.link_faults outbox.old) (O.link_faults outbox.new) (O.calls outbox.old) (O.calls outbox.new)) }
+    ensures err { OnErr result (StopsAtAFault (listed (sent_of worker.old incoming.now.router passed (drop FRAME_HEAD buffer.old))) (O.link_faults outbox.old) (O.link_faults outbox.new) (O.calls outbox.old) (O.calls outbox.new)) }
     ensures cause { HasCause (O.channel_faults outbox.old) (O.channel_faults outbox.new) result }
     ensures links { O.link_faults outbox.old ≤ O.link_faults outbox.new }
 {
     let Some(length) = passed.length else {
         return Ok(());
     };
-    let at = Place {
-        router: incoming.router,
-        transport: passed.transport,
-    };
-    let Some((link, to)) = end_of(worker, at, passed.remote) else {
+    let Some((link, to)) = end_of(worker, incoming, place, passed) else {
         let framed = frame_packet(passed.consumer, length, buffer);
         return outbox.channel(&buffer[..framed]);
     };
@@ -110,11 +108,26 @@ fn send<O: Outbox>(
     Ok(())
 }
 
-// The link of a transport and the tuple of its other end, where both are there.
-fn end_of(worker: &Worker, at: Place, remote: Option<Tuple>) -> Option<(u32, Tuple)>
-    ensures { result ≡ end_of worker.now at remote }
+// The link of a Consumer's transport and the tuple of its other end, where both are there. The link is looked for where it
+// was noted at the Consumer, and where it stands elsewhere that is noted.
+fn end_of(
+    worker: &mut Worker,
+    incoming: &Incoming<'_>,
+    place: usize,
+    passed: Passed,
+) -> Option<(u32, Tuple)>
+    ensures end { result ≡ end_of worker.old (record { router = incoming.now.router; transport = passed.transport }) passed.remote }
+    ensures state { worker.new ≡ worker.old }
 {
-    let to = remote?;
-    let link = worker.link_of(at)?;
+    let to = passed.remote?;
+    let at = Place {
+        router: incoming.router,
+        transport: passed.transport,
+    };
+    let mut near = passed.noted;
+    let link = worker.link_near(at, &mut near)?;
+    if near != passed.noted {
+        note(worker, incoming, place, near);
+    }
     Some((link, to))
 }

@@ -49,3 +49,14 @@ pub(crate) fn pass_to(
         into,
     )
 }
+
+/// Notes a number at the Consumer at a place among those of the Producer.
+pub(crate) fn note(worker: &mut Worker, incoming: &Incoming<'_>, place: usize, number: usize)
+    ensures { worker.new ≡ worker.old }
+{
+    worker.routers_differ();
+    let Some(router) = worker.router_mut(incoming.router) else {
+        return;
+    };
+    router.note(incoming.producer, place, number);
+}

@@ -10,7 +10,7 @@ use Rattle.indexmap.proofs.CallerLemmas.{keys-with_value_at}
 use Rattle.ms_base.specs.declared.id.Id.{Id}
 use Rattle.worker_router.specs.State.{same_id}
 use Rattle.worker_router.specs.Tables.{AreUnderIds}
-use Rattle.worker_router.proofs.ByIdLemmas.{Under, changed, found, found_under, nobody, written, written-under, same-bytes, swapped}
+use Rattle.worker_router.proofs.ByIdLemmas.{Under, changed, found, found_under, nobody, written, written-same, written-under, same-bytes, swapped}
 use Rattle.worker_router.proofs.ListLemmas.{find-test, self-same}
 
 of-index : {X : Type 0} (xs : List X) (o : Option ℕ) (r : Option X) → is_some o ≡ is_some r → IfSome o (λ i. slice_get xs i ≡ r) → option_and_then (slice_get xs) o ≡ r
@@ -92,6 +92,9 @@ module _ {X S : Type 0} (id : X → Id) (i : Id) (m : HashMap (List ℕ) X S) (x
 
       pub changed-at : (change : X → X) → w ≡ change x → values_of (set_value_at m.entries n w) ≡ changed id change i xs
       changed-at change = written id change i m (with_value_at m n w) xs x w under are apart there put
+
+      pub same-at : w ≡ x → values_of (set_value_at m.entries n w) ≡ xs
+      same-at = written-same id (λ y. y) i m (with_value_at m n w) xs x w under are apart there put
 
       pub kept-at : (id w).0 ≡ (id x).0 → AreUnderIds id (with_value_at m n w)
       kept-at same = record {

@@ -110,6 +110,15 @@ impl Feed {
         }
     }
 
+    /// Notes a number at the Consumer at a place.
+    pub(crate) fn note_number(&mut self, place: usize, number: usize)
+        ensures { self.new ≡ self.old }
+    {
+        if let Some(consumer) = self.consumers.get_mut(place) {
+            consumer.note_number(number);
+        }
+    }
+
     /// Its Consumers in order of making, each with its transport.
     pub(crate) fn consumers(&self) -> &[Listed]
         ensures { result.now ≡ self.now.consumers }

@@ -62,6 +62,19 @@ impl ById<Feed> {
         feed.note(place, stands);
     }
 
+    /// Notes a number at the Consumer at a place of the Producer of this id. That is looked for where one stood first.
+    pub(crate) fn note_number(&mut self, producer: Id, place: usize, first: usize, number: usize)
+        ensures { self.new ≡ self.old }
+    {
+        let Some(index) = self.index_of(producer, first) else {
+            return;
+        };
+        let Some(feed) = self.items.get_index_mut(index) else {
+            return;
+        };
+        feed.note_number(place, number);
+    }
+
     /// Takes out those over a transport.
     pub(crate) fn remove_over(&mut self, transport: Id)
         ensures state { self.new ≡ without (λ f. is_on transport f.source) self.old }

@@ -5,11 +5,13 @@ ghost use Rattle.std.specs.Prelude.{◌≡◌};
 use ms_base::Id;
 use std::marker::Model;
 
-/// Where a Consumer and its transport stand among those of the Router, as far as is known.
+/// Where a Consumer and its transport stand among those of the Router, as far as is known, and what a caller has noted at
+/// the Consumer.
 #[derive(Clone, Copy, Debug, PartialEq, Eq)]
 pub(crate) struct Stands {
     pub(crate) consumer: usize,
     pub(crate) transport: usize,
+    pub(crate) noted: usize,
 }
 
 /// A Consumer with its transport. Contracts see the two ids alone: where the objects stand is a guess, which is put right
@@ -39,6 +41,7 @@ impl Listed {
             stands: Stands {
                 consumer: 0,
                 transport: 0,
+                noted: 0,
             },
         }
     }
@@ -65,5 +68,12 @@ impl Listed {
         ensures { self.new ≡ self.old }
     {
         self.stands = stands;
+    }
+
+    /// Notes a number of the caller's.
+    pub(crate) fn note_number(&mut self, number: usize)
+        ensures { self.new ≡ self.old }
+    {
+        self.stands.noted = number;
     }
 }

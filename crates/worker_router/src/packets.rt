@@ -21,6 +21,8 @@ pub struct Passed {
     pub remote: Option<Tuple>,
     /// How many bytes the Consumer sends on, if it does.
     pub length: Option<usize>,
+    /// What was noted at the Consumer, if anything was: 0 at first.
+    pub noted: usize,
 }
 
 impl WorkerRouter {
@@ -42,7 +44,9 @@ impl WorkerRouter {
         ensures received { result ≡ option_and_then (receives view.now) (producer_of self.now producer) }
         ensures fits { IfSome result (λ m. m.payload_type < 128) }
     {
-        self.producers.get(producer)?.receive(view)
+        let mut place = self.served;
+        let feed = self.producers.get_near(producer, &mut place)?;
+        feed.receive(view)
     }
 
     /// Gives the Consumer at a place among those of a Producer, from 0 in order of making, a packet, and writes what it
@@ -93,7 +97,17 @@ impl WorkerRouter {
             transport,
             remote,
             length,
+            noted: stood.noted,
         })
+    }
+
+    /// Notes a number at the Consumer at a place among those of a Producer, for whoever passes packets to it: where that
+    /// looks for something first, say. Contracts don't see it.
+    pub fn note(&mut self, producer: Id, place: usize, number: usize)
+        ensures { self.new ≡ self.old }
+    {
+        self.producers
+            .note_number(producer, place, self.served, number);
     }
 
     /// Writes what a Consumer sends on of a packet over the front of `into`, and gives its length. `mapped` is what its

@@ -17,7 +17,9 @@ loop-passed-smaller g c =
     let w : Worker = c.loop-passed.worker in
     let ts : List (Id × Id) = targets i c.args.worker.now in
     let to : Id × Id = (c.in-Some.passed.consumer, c.in-Some.passed.transport) in
-    let kept : length (targets i c.pass.new.worker) ≡ length (targets i w) = ap (λ (v : Worker). length (targets i v)) c.in-Some.ensures.state ∙ ap length (targets-kept i to.0 w) in
+    let kept : length (targets i c.send.new.worker) ≡ length (targets i w) =
+    ap (λ (v : Worker). length (targets i v)) (c.send.ensures.state ∙ c.in-Some.ensures.state) ∙ ap length (targets-kept i to.0 w)
+    in
     let inside : c.loop-passed.place < length (targets i w) = place-in i ts c.loop-passed.place to w c.loop-passed.invariant.same c.in-Some.ensures.to in
     omega arith
 
@@ -29,7 +31,7 @@ loop-passed-preserved g c =
     let ts : List (Id × Id) = targets i c.args.worker.now in
     let to : Id × Id = (c.in-Some.passed.consumer, c.in-Some.passed.transport) in
     let whole : List Outgoing = out_each i ts c.args.worker.now in
-    let state : c.pass.new.worker ≡ behind_one i to.0 w = c.in-Some.ensures.state in
+    let state : c.send.new.worker ≡ behind_one i to.0 w = c.send.ensures.state ∙ c.in-Some.ensures.state in
     record {
       same = ap (targets i) state ∙ (targets-kept i to.0 w ∙ c.loop-passed.invariant.same);
       state = ap (λ (v : Worker). behind_each i (drop (place + 1) ts) v) state

@@ -1,6 +1,6 @@
-use Rattle.std.proofs.Common.{ℕ, List, None, take, drop, sym, ap, ◌∙◌}
+use Rattle.std.proofs.Common.{ℕ, List, None, take, drop, sym}
 use Rattle.channel_msgs.specs.Packet.{packet_payload}
-use Rattle.worker_engine.specs.Forwarding.{Incoming, listed, sent_of, end_of}
+use Rattle.worker_engine.specs.Forwarding.{listed, sent_of}
 use Rattle.worker_engine.proofs.Calls.{said-stops}
 use Rattle.worker_engine.proofs.Sends.{sent-is}
 use Rattle.worker_engine.proofs.forward.send.Goals as goal
@@ -12,5 +12,5 @@ returns-in_default-end_of-clause-err g c =
     (listed (sent_of c.args.worker.now c.args.incoming.now.router c.args.passed bytes))
     (g.O.Outbox.link_faults c.args.outbox.now) (g.O.Outbox.link_faults c.channel.new.self) (g.O.Outbox.calls c.args.outbox.now) (g.O.Outbox.calls c.channel.new.self)
     (sent-is c.args.worker.now c.args.incoming.now.router c.args.passed c.in-Some.length bytes None (sym c.in-Some.is)
-    (c.in_default-end_of.ensures ∙ ap (λ (i : Incoming). end_of c.args.worker.now (record { router = i.router; transport = c.args.passed.transport }) c.args.passed.remote) c.incoming.view_is))
+    c.in_default-end_of.ensures.end)
     c.frame_packet-framed.ensures.frame c.channel.ensures.other c.channel.ensures.told

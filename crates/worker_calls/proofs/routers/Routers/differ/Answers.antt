@@ -14,4 +14,4 @@ ids-of (e ∷ es) = let left = ids-of es in (λ j. e.0 ∷ left j)
 pub returns : goal.returns
 returns c =
     subst (λ (rs : List RouterAt). AreDifferent (λ r. r.id) rs) c.self.view_is
-    (subst (IsDistinct bytes_eq) (ids-of c.self.inside.routers.entries) c.get_index_of-place.ensures.unique)
+    (subst (IsDistinct bytes_eq) (ids-of c.self.inside.routers.entries) c.len-count.ensures.unique)

@@ -1,11 +1,15 @@
-use Rattle.std.proofs.Common.{List, option_map, find, ap, sym, ◌∙◌}
-use Rattle.worker_router.specs.State.{same_id}
+use Rattle.std.proofs.Common.{None, Some, Option, option_map, option_copied, ap, ◌∙◌}
+use Rattle.std.specs.Borrow.{Bor}
+use Rattle.worker_router.specs.State.{RouterState}
 use Rattle.worker_calls.specs.Plans.{at}
-use Rattle.worker_calls.specs.State.{RouterAt}
-use Rattle.worker_calls.proofs.EntryLemmas.{found}
+use Rattle.worker_calls.proofs.PlaceLemmas.{read-at}
 use Rattle.worker_calls.proofs.routers.Routers.get.Goals as goal
+
+pub returns-in_err-_key : goal.returns-in_err-_key
+returns-in_err-_key c =
+    ap (λ (r : Option (Bor RouterState)). option_map (at c.args.id) (option_copied r)) c.from_residual-in_err-_key.ensures
+    ∙ read-at c.args.id c.self.inside.routers c.args.self.now c.self.view_is c.in_ok-index.index c.in_ok-index.ensures None c.in_err-_key.ensures.entry
 
 pub returns : goal.returns
 returns c =
-    ap (option_map (at c.args.id)) c.get.ensures.value
-    ∙ (sym (found c.args.id c.self.inside.routers.entries) ∙ ap (λ (rs : List RouterAt). find (λ r. same_id r.id c.args.id) rs) c.self.view_is)
+    read-at c.args.id c.self.inside.routers c.args.self.now c.self.view_is c.in_ok-index.index c.in_ok-index.ensures (Some (c.in_ok-_key._key.now, c.in_ok-_key.router.now)) c.in_ok-_key.ensures.entry

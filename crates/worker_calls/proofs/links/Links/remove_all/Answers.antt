@@ -3,7 +3,7 @@ use Rattle.std.proofs.lemmas.Fn.{filter_same}
 use Rattle.worker_calls.specs.Plans.{covers}
 use Rattle.worker_calls.specs.State.{LinkAt}
 use Rattle.worker_calls.specs.Tables.{LinksView}
-use Rattle.worker_calls.proofs.links.Links.remove.Goals as goal
+use Rattle.worker_calls.proofs.links.Links.remove_all.Goals as goal
 
 pub returns : goal.returns
 returns c =
