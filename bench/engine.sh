@@ -3,7 +3,8 @@
 # Consumers, each on a transport of its own, payloads of 160 and 1,200 bytes. The kinds are `direct` and `extended`, opus by the channel
 # without a header extension and with one of three elements, where plain C is beside it too; `plain`, datagrams in and out; `pipe`, three
 # encodings to pipe Consumers; and `video`, VP8 to Consumers some of which are paused and resumed. Nothing is sent: the outbox looks at
-# the last byte of each frame. The programs take turns, and have to agree on every byte. Then what the close of a transport takes.
+# the last byte of each frame. The programs take turns, and have to agree on every byte. Then what the close of a transport takes, and
+# those of many one by one.
 # Usage: bench/engine.sh [REPEATS]. REPEATS is 3 by default; the best of them counts. It prints nanoseconds for each packet out.
 . "$(dirname "$0")/scaffold.sh"
 needs rt clang rustc python3

@@ -55,8 +55,19 @@ def close(objects):
     print(f"close of a transport with {objects:6} objects: {time / 1e6:8.2f} ms, {time / objects:6.1f} ns an object", flush=True)
 
 
+def closes(transports):
+    requests = requests_of("closes", transports)
+    time, payloads = min(run(ENGINE, requests)[0] for _ in range(repeats))
+    # The socket and the reply of the last of them.
+    if payloads != 2:
+        sys.exit(f"the close of the last of {transports} transports made {payloads} payloads")
+    print(f"closes of {transports:6} transports one by one: {time / 1e6:8.2f} ms, {time / transports:6.1f} ns a transport", flush=True)
+
+
 for kind in ("direct", "extended", "plain", "pipe", "video"):
     for consumers in (1, 10, 50, 500):
         compare(kind, consumers)
 for objects in (500, 5000, 50000):
     close(objects)
+for transports in (500, 5000):
+    closes(transports)

@@ -1,9 +1,10 @@
 //! The plain Rust that the engine is compared with. It keeps objects as the engine does: each by its id, in std's hash tables. A packet is
-//! parsed once, numbered for each Consumer, and copied. With `same` it looks up all that the engine looks up, for each copy the Router and,
-//! where the transport has a tuple, the link; the Producer, the Consumer and its transport are looked for where they stand. With `fewest` it
+//! parsed once, numbered for each Consumer, and copied. With `same` it looks for all that the engine looks for, for each copy the Router, the
+//! Producer, the Consumer, its transport and, where that has a tuple, the link, each where it stands. With `fewest` it
 //! keeps the Router, and looks up the transport and the Consumer for each copy.
 //! Usage: plain KIND CONSUMERS same|fewest, with KIND as for requests.py.
 use std::collections::HashMap;
+use std::hash::Hash;
 use std::hint::black_box;
 use std::time::Instant;
 
@@ -213,8 +214,8 @@ struct Router {
 struct Worker {
     directs: HashMap<Id, (Id, Id)>,
     places: HashMap<u32, (Id, Id)>,
-    links: HashMap<(Id, Id), u32>,
-    routers: HashMap<Id, Router>,
+    links: ById<u32, (Id, Id)>,
+    routers: ById<Router>,
     buffer: Vec<u8>,
 }
 
@@ -274,40 +275,40 @@ fn pass(consumer: &mut Consumer, ids: &[u8; 256], mapped: Mapped, view: &View, p
 }
 
 /// Objects by their ids, in order of making.
-struct ById<T> {
-    places: HashMap<Id, usize>,
-    items: Vec<(Id, T)>,
+struct ById<T, K = Id> {
+    places: HashMap<K, usize>,
+    items: Vec<(K, T)>,
 }
 
-impl<T> ById<T> {
-    fn place_of(&self, id: &Id, first: usize) -> Option<usize> {
+impl<T, K: Copy + Eq + Hash> ById<T, K> {
+    fn place_of(&self, id: &K, first: usize) -> Option<usize> {
         match self.items.get(first) {
             Some((own, _)) if own == id => Some(first),
             _ => self.places.get(id).copied(),
         }
     }
 
-    fn near(&self, id: &Id, first: usize) -> Option<&T> {
+    fn near(&self, id: &K, first: usize) -> Option<&T> {
         Some(&self.items[self.place_of(id, first)?].1)
     }
 
-    fn near_mut(&mut self, id: &Id, first: usize) -> Option<&mut T> {
+    fn near_mut(&mut self, id: &K, first: usize) -> Option<&mut T> {
         let place = self.place_of(id, first)?;
         Some(&mut self.items[place].1)
     }
 
-    fn get(&self, id: &Id) -> Option<&T> {
+    fn get(&self, id: &K) -> Option<&T> {
         Some(&self.items[*self.places.get(id)?].1)
     }
 
-    fn get_mut(&mut self, id: &Id) -> Option<&mut T> {
+    fn get_mut(&mut self, id: &K) -> Option<&mut T> {
         Some(&mut self.items[*self.places.get(id)?].1)
     }
 }
 
-impl<T> FromIterator<(Id, T)> for ById<T> {
-    fn from_iter<I: IntoIterator<Item = (Id, T)>>(all: I) -> ById<T> {
-        let items: Vec<(Id, T)> = all.into_iter().collect();
+impl<T, K: Copy + Eq + Hash> FromIterator<(K, T)> for ById<T, K> {
+    fn from_iter<I: IntoIterator<Item = (K, T)>>(all: I) -> ById<T, K> {
+        let items: Vec<(K, T)> = all.into_iter().collect();
         let places = items.iter().enumerate().map(|(place, (id, _))| (*id, place)).collect();
         ById { places, items }
     }
@@ -352,12 +353,12 @@ fn send(buffer: &mut [u8], length: usize, head: &[u8; HEAD - 4], end: Option<(u3
     }
 }
 
-/// A packet goes to the Consumers, with all look-ups of the engine.
+/// A packet goes to the Consumers. All is looked for where it stands, as the engine does.
 fn forward_same(worker: &mut Worker, router: Id, producer: Id, view: &View, packet: &[u8], meter: &mut Meter) -> Option<()> {
-    let mapped = worker.routers.get(&router)?.producers.near(&producer, 0)?.receive(view)?;
+    let mapped = worker.routers.near(&router, 0)?.producers.near(&producer, 0)?.receive(view)?;
     let mut place = 0;
     loop {
-        let Router { transports, producers, consumers, .. } = worker.routers.get_mut(&router)?;
+        let Router { transports, producers, consumers, .. } = worker.routers.near_mut(&router, 0)?;
         let source = producers.near(&producer, 0)?;
         let Some(&(id, transport)) = source.consumers.get(place) else { break };
         let consumer = consumers.near_mut(&id, place)?;
@@ -366,7 +367,7 @@ fn forward_same(worker: &mut Worker, router: Id, producer: Id, view: &View, pack
         place += 1;
         if let Some(length) = pass(consumer, &source.ids, mapped, view, packet, &mut worker.buffer) {
             let end = match remote {
-                Some(to) => worker.links.get(&(router, transport)).map(|link| (*link, to)),
+                Some(to) => worker.links.near(&(router, transport), place).map(|link| (*link, to)),
                 None => None,
             };
             send(&mut worker.buffer, length, &consumer.head, end, meter);
@@ -404,7 +405,7 @@ fn on_packet<const IS_SAME: bool>(worker: &mut Worker, from: From, packet: &[u8]
         From::Direct(id) => *worker.directs.get(&id)?,
         From::Link(link, tuple) => {
             let (id, transport) = *worker.places.get(&link)?;
-            let router = worker.routers.get_mut(&id)?;
+            let router = worker.routers.near_mut(&id, 0)?;
             if !router.transports.get_mut(&transport)?.accepts(tuple) {
                 return None;
             }
@@ -463,7 +464,7 @@ fn producer_of(kind: Kind, consumers: usize) -> Producer {
 fn worker_of(kind: Kind, consumers: usize) -> Worker {
     let (router, transport, producer) = (id_of(ROUTER), id_of(TRANSPORT), id_of(PRODUCER));
     let mut transports = vec![(transport, Transport { link: (!kind.is_direct()).then_some(1), remote: None })];
-    let (mut places, mut links) = (HashMap::from([(1, (router, transport))]), HashMap::from([((router, transport), 1)]));
+    let (mut places, mut links) = (HashMap::from([(1, (router, transport))]), vec![((router, transport), 1)]);
     for place in 0..consumers {
         let (id, link) = (id_of(OTHER + place), 2 + place as u32);
         let is_linked = !kind.is_direct();
@@ -471,7 +472,7 @@ fn worker_of(kind: Kind, consumers: usize) -> Worker {
         transports.push((id, Transport { link: is_linked.then_some(link), remote }));
         if is_linked {
             places.insert(link, (router, id));
-            links.insert((router, id), link);
+            links.push(((router, id), link));
         }
     }
     let stand = Router {
@@ -483,8 +484,8 @@ fn worker_of(kind: Kind, consumers: usize) -> Worker {
     Worker {
         directs: HashMap::from([(producer, (router, producer))]),
         places,
-        links,
-        routers: HashMap::from([(router, stand)]),
+        links: links.into_iter().collect(),
+        routers: [(router, stand)].into_iter().collect(),
         buffer: vec![0; 65_576],
     }
 }

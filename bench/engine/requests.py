@@ -2,7 +2,8 @@
 number of Consumers, then the payloads of requests. A line that begins with + has one for later.
 
 Usage: requests.py KIND CONSUMERS, with KIND one of direct, extended, plain, pipe, video; or requests.py close OBJECTS, which makes a
-transport with so many objects below it, half of them Producers and half Consumers of these, and closes it later."""
+transport with so many objects below it, half of them Producers and half Consumers of these, and closes it later; or requests.py closes
+TRANSPORTS, which makes so many plain transports, and closes them later one by one, in order of making."""
 
 import json
 import sys
@@ -109,10 +110,20 @@ def objects(count):
         yield consume("close", {**below, **producer, "consumerId": of(0x20000000 + place)}, place, 1)
 
 
+def transports(count):
+    """The requests that make a Router with plain transports, and those that close these."""
+    router = {"routerId": of(ROUTER)}
+    every = [{**router, "transportId": of(OTHER + place)} for place in range(count)]
+    made = [("worker.createRouter", router, None), *(transport("plain", ids) for ids in every)]
+    return made, [("transport.close", ids, None) for ids in every]
+
+
 def write(kind, count):
     print(kind, count)
     if kind == "close":
         lists = ("", objects(count)), ("+", [("transport.close", {"routerId": of(ROUTER), "transportId": of(TRANSPORT)}, None)])
+    elif kind == "closes":
+        lists = zip(("", "+"), transports(count))
     else:
         lists = ("", streams(kind, count)), ("+", pauses(count) if kind == "video" else [])
     for mark, requests in lists:

@@ -4,24 +4,22 @@ import os
 import signal
 import subprocess
 import sys
-import time
 from threading import Timer
 
-from shapes import SHAPES
+from shapes import HELD, SHAPES
 
 
 def timed(command, source, target, limit):
-    """Seconds of wall time, or None where they passed the limit, and the status."""
+    """Seconds of processor time, or None where the seconds of wall time passed the limit, and the status."""
     with open(source, "rb") as given, open(target, "wb") as got:
-        begun = time.perf_counter()
         child = subprocess.Popen(command, stdin=given, stdout=got, start_new_session=True)
         # Popen's own limit looks at the child in steps of up to 50 ms.
         end = Timer(limit, os.killpg, (child.pid, signal.SIGKILL))
         end.start()
-        status = child.wait()
-        seconds = time.perf_counter() - begun
+        _, status, usage = os.wait4(child.pid, 0)
         end.cancel()
-    return None if status == -signal.SIGKILL else seconds, status
+    status = child.returncode = os.waitstatus_to_exitcode(status)
+    return None if status == -signal.SIGKILL else usage.ru_utime + usage.ru_stime, status
 
 
 def lines_of(path):
@@ -46,18 +44,32 @@ def best_of(runs, command, journal, limit):
     return None if None in times else min(times)
 
 
-def row(program, work, shape, share, runs, limit):
-    """What a row of the table shows; the best time and what stands behind it are missing where a run was ended."""
+def written(work, lines):
     journal = os.path.join(work, "journal")
-    lines, notes = shape(share)
     with open(journal, "w", encoding="ascii") as text:
         text.write("journal 1 7\n")
         text.writelines(lines)
+    return journal
+
+
+def row(program, work, shape, share, runs, limit):
+    """What a row of the table shows; the best time and what stands behind it are missing where a run was ended."""
+    lines, notes = shape(share)
+    journal = written(work, lines)
     size, entries = os.path.getsize(journal), lines_of(journal) - 1
     peak = peak_of(program, journal, work, notes, limit)
     best = best_of(runs, [program, "replay"], journal, limit) if peak else None
     wc = best_of(runs, ["wc", "-l"], journal, limit)
     return size, entries, best, peak, wc
+
+
+def bytes_for_each(program, work, shape, scale, limit):
+    """What one more of a thing takes, its entries and notes included."""
+    peaks, few, many = [], int(10_000 * scale), int(60_000 * scale)
+    for count in (few, many):
+        lines, notes = shape(count)
+        peaks.append(peak_of(program, written(work, lines), work, notes, limit))
+    return None if None in peaks else (peaks[1] - peaks[0]) / (many - few)
 
 
 def show(name, size, entries, best, peak, wc, short):
@@ -77,6 +89,10 @@ def main():
             figures = row(program, work, shape, share, runs, limit)
             print(show(name, *figures, short), flush=True)
             short = figures[2]
+    print(f"\n{'':33}{'bytes':>8}")
+    for name, shape in HELD:
+        each = bytes_for_each(program, work, shape, scale, limit)
+        print(f"{name:33}{'ended' if each is None else round(each):>8}", flush=True)
 
 
 if __name__ == "__main__":

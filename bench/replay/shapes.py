@@ -262,3 +262,50 @@ SHAPES = [
     ("20,000 awaits that wait", awaits_that_wait),
     ("20,000 parameters of 3 kB", large_parameters),
 ]
+
+
+# ---- So many of a thing, all of them there at the end.
+
+
+def held(words, content=None, answered=True):
+    """Calls of these words, a number in each, and perhaps their responses: two notes, and the object's."""
+
+    def shape(count):
+        def lines():
+            lane = Worker(1)
+            yield from lane.opens()
+            yield lane.does("direct d r1")
+            for number in range(count):
+                call = words.replace("#", str(number))
+                yield lane.does(call, content) if answered else lane.calls(call)
+
+        return lines(), OPENS_NOTES + 3 + (3 if answered else 1) * count
+
+    return shape
+
+
+def awaits(names):
+    """Awaits of one name, or of a name each, which wait. None has a note."""
+
+    def shape(count):
+        def lines():
+            for number in range(count):
+                yield f"await 1 {names.replace('#', str(number))} open 1\n"
+
+        return lines(), 0
+
+    return shape
+
+
+HELD = [
+    ("a Router without codecs", held(f"router r_# w1 {OPTIONS}")),
+    ("a Router with opus", held(f"router r_# w1 {MEDIA}")),
+    ("a direct transport", held("direct d_# r1")),
+    ("a plain transport", held(f"plain t_# r1 {PLAIN}", TUPLE)),
+    ("a Producer of opus", held(f"produce p_# d {PRODUCE.replace('1000', '1#')}")),
+    ("a Consumer of opus", held(f"consume c_# d p1 {CAPABILITIES}", FLAGS)),
+    ("a pending request for a Router", held(f"router r_# w1 {OPTIONS}", answered=False)),
+    ("a pending request for a transport", held("direct d_# r1", answered=False)),
+    ("an await of its own name", awaits("a_#")),
+    ("an await of a common name", awaits("a")),
+]
