@@ -10,6 +10,7 @@ ghost use Rattle.host_requests.specs.Kept.{outlines};
 
 use crate::places::Places;
 use crate::request::Request;
+use boxed_value::Boxed;
 use ms_base::{NoMemory, Serial, WorkerKey};
 use std::alloc::Global;
 use std::collections::{BTreeMap, BTreeSet};
@@ -18,7 +19,9 @@ use std::marker::Model;
 /// Requests under numbers that rise in order of issue. Contracts see them as a list of numbers and requests.
 #[derive(Debug, Drop)]
 pub(crate) struct Filed<D> {
-    requests: BTreeMap<u64, Request<D>>,
+    alloc: Global,
+    /// Each in a place of its own, since the nodes of the table are half full.
+    requests: BTreeMap<u64, Boxed<Request<D>>>,
     places: Places,
 }
 
@@ -40,6 +43,7 @@ impl<D: Drop> Filed<D> {
         ensures { result ≡ [] }
     {
         Filed {
+            alloc,
             requests: BTreeMap::new(alloc),
             places: Places::new(alloc),
         }
@@ -52,6 +56,7 @@ impl<D: Drop> Filed<D> {
         ensures err { OnErr result (self.new ≡ self.old) }
     {
         let (via, under) = (request.via, request.under);
+        let request = Boxed::new(self.alloc, request)?;
         self.places.add(number, via, under)?;
         match self.requests.insert(number, request) {
             Ok(_) => Ok(()),
@@ -70,6 +75,7 @@ impl<D: Drop> Filed<D> {
         ensures in_order { IsStrictlySortedBy nat_cmp (keys_of self.old) }
     {
         let request = self.requests.remove(&number)?;
+        let request = request.into_inner();
         self.places.remove(number, request.via, request.under);
         Some(request)
     }

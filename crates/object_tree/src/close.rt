@@ -8,12 +8,12 @@ ghost use Rattle.object_tree.specs.Tables.{AreKeyed, change_at, close_open};
 
 use crate::among::Among;
 use crate::object::Object;
+use crate::stored::{Objects, object_at};
 use ms_base::{Kind, Reason, Serial};
-use std::collections::BTreeMap;
 
 /// Closes the objects of these serials, each once, where they are open.
 pub(crate) fn close_each(
-    objects: &mut BTreeMap<u32, Object>,
+    objects: &mut Objects,
     serials: &[Serial],
     roots: &[Serial],
     reason: Reason,
@@ -32,7 +32,7 @@ pub(crate) fn close_each(
 
 // Closes the object of a serial, where it is open.
 fn close_one(
-    objects: &mut BTreeMap<u32, Object>,
+    objects: &mut Objects,
     serial: Serial,
     fallen: &Among<'_>,
     roots: &Among<'_>,
@@ -43,7 +43,7 @@ fn close_one(
     ensures keyed { AreKeyed objects.new.entries }
     ensures values { let xs = values_of objects.old.entries in values_of objects.new.entries ≡ map (change_at (close_open (reason_of xs fallen.now roots.now reason)) serial) xs }
 {
-    let Some(object) = objects.get(&serial.0) else {
+    let Some(object) = object_at(objects, serial.0) else {
         return;
     };
     if object.closed.is_some() {
@@ -57,7 +57,7 @@ fn close_one(
 
 // Why an object closes that is one of the fallen.
 fn reason_of(
-    objects: &BTreeMap<u32, Object>,
+    objects: &Objects,
     object: &Object,
     fallen: &Among<'_>,
     roots: &Among<'_>,
@@ -77,11 +77,7 @@ fn reason_of(
 }
 
 // The kind of a parent that is one of the fallen.
-fn fallen_parent(
-    objects: &BTreeMap<u32, Object>,
-    fallen: &Among<'_>,
-    parent: Option<Serial>,
-) -> Option<Kind>
+fn fallen_parent(objects: &Objects, fallen: &Among<'_>, parent: Option<Serial>) -> Option<Kind>
     requires { AreKeyed objects.now.entries }
     ensures { result ≡ fallen_parent (values_of objects.now.entries) fallen.now parent }
 {
@@ -96,11 +92,11 @@ fn fallen_parent(
 }
 
 // The kind of the object of a serial.
-fn kind_of(objects: &BTreeMap<u32, Object>, serial: Serial) -> Option<Kind>
+fn kind_of(objects: &Objects, serial: Serial) -> Option<Kind>
     requires { AreKeyed objects.now.entries }
     ensures { result ≡ option_map (λ o. o.kind) (numbered (values_of objects.now.entries) serial) }
 {
-    match objects.get(&serial.0) {
+    match object_at(objects, serial.0) {
         Some(object) => Some(object.kind),
         None => None,
     }

@@ -12,9 +12,10 @@ use crate::children::Children;
 use crate::ends::Ends;
 use crate::links::leads;
 use crate::object::Object;
+use crate::stored::{Objects, object_at};
 use ms_base::{NoMemory, Serial};
 use std::alloc::Global;
-use std::collections::{BTreeMap, BTreeSet};
+use std::collections::BTreeSet;
 use std::mem;
 
 /// The objects that fall, as far as they are known.
@@ -63,15 +64,11 @@ fn is_led_by(from: &Object, object: &Object) -> bool
 }
 
 // Adds the object of a serial, if it is open.
-fn add_root(
-    objects: &BTreeMap<u32, Object>,
-    serial: Serial,
-    fall: &mut Fall,
-) -> Result<(), NoMemory>
+fn add_root(objects: &Objects, serial: Serial, fall: &mut Fall) -> Result<(), NoMemory>
     requires { AreKeyed objects.now.entries }
     ensures { OnOk result (Grows (at objects.now) (λ y. is_open y && has_serial serial y) fall.old fall.new) }
 {
-    let Some(object) = objects.get(&serial.0) else {
+    let Some(object) = object_at(objects, serial.0) else {
         return Ok(());
     };
     if is_open(object) {
@@ -82,11 +79,7 @@ fn add_root(
 }
 
 // Adds the open objects of these serials.
-fn add_roots(
-    objects: &BTreeMap<u32, Object>,
-    roots: &[Serial],
-    fall: &mut Fall,
-) -> Result<(), NoMemory>
+fn add_roots(objects: &Objects, roots: &[Serial], fall: &mut Fall) -> Result<(), NoMemory>
     requires { AreKeyed objects.now.entries }
     ensures { OnOk result (Grows (at objects.now) (is_open_root roots.now) fall.old fall.new) }
 {
@@ -97,16 +90,11 @@ fn add_roots(
 }
 
 // Adds the object of a serial, if it is open and a link leads to it from another.
-fn add_led(
-    objects: &BTreeMap<u32, Object>,
-    from: &Object,
-    serial: u32,
-    fall: &mut Fall,
-) -> Result<(), NoMemory>
+fn add_led(objects: &Objects, from: &Object, serial: u32, fall: &mut Fall) -> Result<(), NoMemory>
     requires { AreKeyed objects.now.entries }
     ensures { OnOk result (Grows (at objects.now) (λ y. is_open y && leads from.now y && (y.serial.0 == serial)) fall.old fall.new) }
 {
-    let Some(object) = objects.get(&serial) else {
+    let Some(object) = object_at(objects, serial) else {
         return Ok(());
     };
     if is_led_by(from, object) {
@@ -118,7 +106,7 @@ fn add_led(
 
 // Adds those of these serials that are led to.
 fn add_listed(
-    objects: &BTreeMap<u32, Object>,
+    objects: &Objects,
     from: &Object,
     serials: &[u32],
     fall: &mut Fall,
@@ -134,7 +122,7 @@ fn add_listed(
 
 // Adds those of these pairs that are led to.
 fn add_ends(
-    objects: &BTreeMap<u32, Object>,
+    objects: &Objects,
     from: &Object,
     pairs: &[(u32, u32)],
     fall: &mut Fall,
@@ -149,7 +137,7 @@ fn add_ends(
 }
 
 // Adds the far end of an object, if it is led to.
-fn add_far(objects: &BTreeMap<u32, Object>, from: &Object, fall: &mut Fall) -> Result<(), NoMemory>
+fn add_far(objects: &Objects, from: &Object, fall: &mut Fall) -> Result<(), NoMemory>
     requires { AreKeyed objects.now.entries }
     ensures { OnOk result (Grows (at objects.now) (λ y. is_open y && leads from.now y && is_at from.now.far y.serial) fall.old fall.new) }
 {
@@ -161,7 +149,7 @@ fn add_far(objects: &BTreeMap<u32, Object>, from: &Object, fall: &mut Fall) -> R
 
 // Adds all to which a link leads from an object.
 fn spread_from(
-    objects: &BTreeMap<u32, Object>,
+    objects: &Objects,
     children: &Children,
     ends: &Ends,
     from: &Object,
@@ -178,7 +166,7 @@ fn spread_from(
 
 // Adds all to which a link leads from the object of a serial, if there is one.
 fn spread_one(
-    objects: &BTreeMap<u32, Object>,
+    objects: &Objects,
     children: &Children,
     ends: &Ends,
     serial: u32,
@@ -188,7 +176,7 @@ fn spread_one(
     requires found { AreFound (at objects.now) children.now ends.now }
     ensures { OnOk result (Grows (at objects.now) (λ y. is_open y && leads_from (at objects.now serial) y) fall.old fall.new) }
 {
-    match objects.get(&serial) {
+    match object_at(objects, serial) {
         Some(object) => spread_from(objects, children, ends, object, fall),
         None => Ok(()),
     }
@@ -196,7 +184,7 @@ fn spread_one(
 
 // Adds all to which a link leads from one of these.
 fn spread(
-    objects: &BTreeMap<u32, Object>,
+    objects: &Objects,
     children: &Children,
     ends: &Ends,
     serials: &[u32],
@@ -215,7 +203,7 @@ fn spread(
 // Adds all to which a link leads from those that were new before, and keeps as such those that are new now.
 fn spread_round(
     alloc: Global,
-    objects: &BTreeMap<u32, Object>,
+    objects: &Objects,
     children: &Children,
     ends: &Ends,
     fall: &mut Fall,
@@ -232,7 +220,7 @@ fn spread_round(
 // objects.
 fn reach(
     alloc: Global,
-    objects: &BTreeMap<u32, Object>,
+    objects: &Objects,
     children: &Children,
     ends: &Ends,
     roots: &[Serial],
@@ -265,7 +253,7 @@ fn ascending(alloc: Global, serials: &BTreeSet<u32>) -> Result<Vec<Serial>, NoMe
 /// The serials of the objects that fall with the roots, in ascending order.
 pub(crate) fn fallen(
     alloc: Global,
-    objects: &BTreeMap<u32, Object>,
+    objects: &Objects,
     children: &Children,
     ends: &Ends,
     roots: &[Serial],

@@ -11,8 +11,8 @@ use crate::children::Children;
 use crate::ends::Ends;
 use crate::ids::Ids;
 use crate::object::{Mark, Object};
+use crate::stored::{Objects, object_at};
 use ms_base::{Kind, NoMemory, Serial};
-use std::collections::BTreeMap;
 
 /// Lets an object be found by its id, if that tells it apart.
 pub(crate) fn file_id(object: &Object, ids: &mut Ids) -> Result<(), NoMemory>
@@ -49,7 +49,7 @@ pub(crate) fn file_end(object: &Object, ends: &mut Ends) -> Result<(), NoMemory>
 }
 
 /// Files the object of a serial, if it is a Consumer or a Producer that a mark gives another far end, under that.
-pub(crate) fn turn_end(objects: &BTreeMap<u32, Object>, serial: Serial, mark: Mark, ends: &mut Ends)
+pub(crate) fn turn_end(objects: &Objects, serial: Serial, mark: Mark, ends: &mut Ends)
     requires keyed { AreKeyed objects.now.entries }
     requires there { (o : Object) → numbered (values_of objects.now.entries) serial ≡ Some o → may_be_linked o.kind ≡ true → has_end ends.old (end_at o) serial.0 ≡ true }
     ensures here { (o : Object) → numbered (values_of objects.now.entries) serial ≡ Some o → may_be_linked o.kind ≡ true → has_end ends.new (end_at (marked mark o)) serial.0 ≡ true }
@@ -58,7 +58,7 @@ pub(crate) fn turn_end(objects: &BTreeMap<u32, Object>, serial: Serial, mark: Ma
     let Mark::Far(far) = mark else {
         return;
     };
-    let Some(object) = objects.get(&serial.0) else {
+    let Some(object) = object_at(objects, serial.0) else {
         return;
     };
     if may_be_linked(object.kind) {

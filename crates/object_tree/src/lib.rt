@@ -12,6 +12,7 @@ mod laws;
 mod links;
 mod names;
 mod object;
+mod stored;
 mod tree;
 
 pub use among::Among;

@@ -14,6 +14,8 @@ use crate::filing::{file_end, file_id, file_parent, turn_end};
 use crate::ids::Ids;
 use crate::names::Names;
 use crate::object::{Mark, Object};
+use crate::stored::{Objects, object_at};
+use boxed_value::Boxed;
 use ms_base::{Id, Kind, Name, NoMemory, Reason, Serial};
 use std::alloc::Global;
 use std::collections::BTreeMap;
@@ -23,8 +25,7 @@ use std::marker::Model;
 #[derive(Debug, Drop)]
 pub struct Tree {
     alloc: Global,
-    /// The objects by their serials.
-    objects: BTreeMap<u32, Object>,
+    objects: Objects,
     names: Names,
     ids: Ids,
     children: Children,
@@ -65,7 +66,7 @@ impl Tree {
         ensures found { option_copied result ≡ numbered self.now serial }
         ensures in_order { AreInOrder self.now }
     {
-        self.objects.get(&serial.0)
+        object_at(&self.objects, serial.0)
     }
 
     /// The object that a name belongs to: that of the greatest serial, open or closed.
@@ -73,7 +74,7 @@ impl Tree {
         ensures { option_copied result ≡ named self.now name.now }
     {
         let serial = self.names.get(name.as_slice())?;
-        self.objects.get(&serial)
+        object_at(&self.objects, serial)
     }
 
     /// The open object of a worker, a kind and an id. Producers aren't told apart by their ids: one at the end of a pipe
@@ -83,7 +84,7 @@ impl Tree {
         ensures { option_copied result ≡ open_with_id self.now worker kind id }
     {
         let serial = self.ids.get(worker, kind, id)?;
-        let object = self.objects.get(&serial)?;
+        let object = object_at(&self.objects, serial)?;
         if is_open_with(object, worker, kind, id) {
             Some(object)
         } else {
@@ -103,6 +104,7 @@ impl Tree {
         file_end(&object, &mut self.ends)?;
         let name = Vec::from_slice(self.alloc, object.name.as_slice())?;
         let serial = object.serial.0;
+        let object = Boxed::new(self.alloc, object)?;
         self.objects.insert(serial, object)?;
         match self.names.raise(name, serial) {
             Ok(()) => Ok(()),
@@ -143,7 +145,7 @@ impl Tree {
 }
 
 // Changes the one field of the object of a serial that a mark names.
-fn set_mark(objects: &mut BTreeMap<u32, Object>, serial: Serial, mark: Mark)
+fn set_mark(objects: &mut Objects, serial: Serial, mark: Mark)
     requires keyed { AreKeyed objects.old.entries }
     requires in_order { AreInOrder (values_of objects.old.entries) }
     ensures keyed { AreKeyed objects.new.entries }
@@ -155,7 +157,7 @@ fn set_mark(objects: &mut BTreeMap<u32, Object>, serial: Serial, mark: Mark)
 }
 
 // Takes the object of a serial out again.
-fn take_back(objects: &mut BTreeMap<u32, Object>, serial: u32)
+fn take_back(objects: &mut Objects, serial: u32)
     ensures { objects.new.entries ≡ remove_entry (is_at (nat_cmp serial)) objects.old.entries }
 {
     objects.remove(&serial);

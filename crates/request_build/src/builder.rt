@@ -205,7 +205,10 @@ impl<'k> Builder<'k> {
         ensures ok { IfOk result (λ caps. or_astray (kept_at (known self.now).routers router.now.serial) ≡ Ok caps.now) }
         ensures err { IfErr result (λ e. or_astray (kept_at (known self.now).routers router.now.serial) ≡ Err e) }
     {
-        or_astray(self.kept.routers.get(router.serial))
+        match self.kept.routers.get(router.serial) {
+            Some(caps) => Ok(caps),
+            None => Err(BuildFault::Refused(Outcome::InvalidState)),
+        }
     }
 
     /// What a Producer offers.

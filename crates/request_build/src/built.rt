@@ -1,5 +1,6 @@
 ghost use Rattle.std.specs.Prelude.{◌≡◌};
 
+use boxed_value::Boxed;
 use call_options::OptionFault;
 use channel_msgs::Ids;
 use ms_base::{Id, Media, NoMemory, Outcome, Serial, Text};
@@ -35,14 +36,14 @@ pub struct Offer {
     pub params: Params,
 }
 
-/// What is kept of an object once it is open.
+/// What is kept of an object once it is open, in a place of its own where it is large: a request that waits holds it too.
 #[derive(Debug, Drop)]
 pub enum Keep {
     /// The codecs that a Router can receive and send. Its header extensions, which are those of every Router, aren't kept.
-    Router(Caps),
-    Producer(Offer),
+    Router(Boxed<Caps>),
+    Producer(Boxed<Offer>),
     /// What a Consumer receives.
-    Consumer(Params),
+    Consumer(Boxed<Params>),
     /// Whether an end of a pipe retransmits.
     Pipe(bool),
     Nothing,

@@ -10,6 +10,7 @@ use crate::built::Keep;
 use crate::names::Names;
 use crate::producers::Producers;
 use crate::router_ids::RouterIds;
+use boxed_value::Boxed;
 use ms_base::{NoMemory, Serial};
 use rtp_params::{Caps, Params};
 use std::alloc::Global;
@@ -72,11 +73,11 @@ impl<T: Drop> Table<T> {
 #[derive(Debug, Drop)]
 pub struct Kept {
     /// Of each open Router the codecs that it can receive and send, without header extensions.
-    pub routers: Table<Caps>,
+    pub routers: Table<Boxed<Caps>>,
     /// Of each open Producer what it offers.
     pub producers: Producers,
     /// Of each open Consumer what it receives.
-    pub consumers: Table<Params>,
+    pub consumers: Table<Boxed<Params>>,
     /// Of each open end of a pipe whether it retransmits.
     pub pipes: Table<bool>,
     /// The names that pending calls are to make.

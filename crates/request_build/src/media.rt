@@ -9,6 +9,7 @@ ghost use Rattle.request_build.specs.Rules.{Gives};
 use crate::builder::{Builder, refuse_where};
 use crate::built::{BuildFault, Built, Keep, Offer};
 use crate::ids::{consumer_ids, producer_ids};
+use boxed_value::Boxed;
 use call_options::{
     ConsumeOptions, ProduceOptions, consume_options, piped_consume_options, produce_options,
     what_is_read_fits,
@@ -123,7 +124,7 @@ impl<'k> Builder<'k> {
         )?;
         let asked = Asked::Produce(producer_ids(router, transport, &producer));
         let ssrcs = given.params.encodings.len() as u32;
-        let keeps = Keep::Producer(offer);
+        let keeps = Keep::Producer(Boxed::new(self.alloc, offer)?);
         self.makes_new(asked, Some(value), transport, producer, keeps, ssrcs)
     }
 
@@ -243,7 +244,7 @@ impl<'k> Builder<'k> {
             &consumer,
         ));
         let ssrcs = ssrcs_drawn(params.encodings.as_slice());
-        let keeps = Keep::Consumer(params);
+        let keeps = Keep::Consumer(Boxed::new(self.alloc, params)?);
         self.makes_new(asked, Some(value), ends.transport, consumer, keeps, ssrcs)
     }
 

@@ -7,6 +7,7 @@ ghost use Rattle.request_build.specs.Offers.{offers};
 
 use crate::built::Offer;
 use crate::router_ids::RouterIds;
+use boxed_value::Boxed;
 use ms_base::{Id, NoMemory, Serial};
 use std::alloc::Global;
 use std::collections::BTreeMap;
@@ -16,7 +17,7 @@ use std::marker::Model;
 /// what is kept at each, in ascending order of the serials.
 #[derive(Debug, Drop)]
 pub struct Producers {
-    entries: BTreeMap<u32, Offer>,
+    entries: BTreeMap<u32, Boxed<Offer>>,
     // the ids of the entries
     ids: RouterIds,
 }
@@ -48,7 +49,8 @@ impl Producers {
     pub fn get(&self, serial: Serial) -> Option<&Offer>
         ensures { option_copied result ≡ kept_at self.now serial }
     {
-        self.entries.get(&serial.0)
+        let offer = self.entries.get(&serial.0)?;
+        Some(offer)
     }
 
     /// Whether one of them is in a Router and has an id.
@@ -59,14 +61,18 @@ impl Producers {
     }
 
     /// Keeps what a Producer offers, in place of what was kept at its serial.
-    pub fn insert(&mut self, serial: Serial, offer: Offer) -> Result<(), NoMemory>
+    pub fn insert(&mut self, serial: Serial, offer: Boxed<Offer>) -> Result<(), NoMemory>
         ensures ok { OnOk result (self.new ≡ insert_entry nat_cmp self.old serial.0 offer) }
         ensures err { OnErr result (self.new ≡ self.old) }
     {
-        let (router, id) = (offer.router, offer.id);
+        let offered: &Offer = &offer;
+        let (router, id) = (offered.router, offered.id);
         self.ids.add(router, id)?;
         match self.entries.insert(serial.0, offer) {
-            Ok(Some(before)) => self.ids.remove(before.router, before.id),
+            Ok(Some(before)) => {
+                let before = before.into_inner();
+                self.ids.remove(before.router, before.id);
+            }
             Ok(None) => {}
             Err(_refused) => {
                 self.ids.remove(router, id);
@@ -81,6 +87,7 @@ impl Producers {
         ensures { self.new ≡ gone serial self.old }
     {
         if let Some(offer) = self.entries.remove(&serial.0) {
+            let offer = offer.into_inner();
             self.ids.remove(offer.router, offer.id);
         }
     }

@@ -10,6 +10,7 @@ ghost use Rattle.request_build.specs.Rules.{Gives};
 use crate::builder::Builder;
 use crate::built::{BuildFault, Built, Draws, Keep};
 use crate::ids::transport_ids;
+use boxed_value::Boxed;
 use call_options::{PipeOptions, connect_options, pipe_options, plain_options, router_options};
 use ms_base::{Id, Kind, Name, NoMemory, Serial, Text, Tuple};
 use object_tree::Object;
@@ -125,7 +126,7 @@ impl<'k> Builder<'k> {
         ensures { IfOk result (λ b. built_view b ≡ router_of_codecs (known self.now) name.now worker.now codecs) }
     {
         let exts = Items::from_vec(Vec::new(self.alloc));
-        let caps = Caps { codecs, exts };
+        let caps = Boxed::new(self.alloc, Caps { codecs, exts })?;
         let router = self.new_object(Kind::Router, name, self.own_id(), worker)?;
         let asked = Asked::CreateRouter(router.id);
         self.makes_new(asked, None, worker, router, Keep::Router(caps), 0)

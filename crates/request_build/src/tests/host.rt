@@ -5,6 +5,7 @@ ghost use Rattle.object_tree.specs.Objects.{is_producer, open_with_id};
 ghost use Rattle.request_build.specs.Known.{HasFew, IsKept};
 
 use crate::{Draws, Keep, Kept, Offer, what_is_kept_has_few_encodings};
+use boxed_value::Boxed;
 use ms_base::{Id, Kind, Media, Name, Reason, Serial, Text};
 use object_tree::{Object, Tree};
 use rtp_params::{Caps, Mapping, Params, read_caps, read_mapping, read_params};
@@ -183,15 +184,14 @@ pub(crate) fn kept(alloc: Global, slots: u32, stopped: bool) -> Result<Kept, Fai
     ensures { IfOk result IsKept }
 {
     let kept = nothing_kept(alloc, slots, stopped)?;
-    let kept = with(kept, 2, Keep::Router(caps(alloc)?))?;
-    let kept = with(kept, 9, Keep::Router(caps(alloc)?))?;
-    let kept = with(
-        kept,
-        6,
-        Keep::Producer(offer(alloc, 6, Media::Audio, OFFER)?),
-    )?;
-    let kept = with(kept, 7, Keep::Producer(offer(alloc, 7, Media::Video, TWO)?))?;
-    let kept = with(kept, 8, Keep::Consumer(params(alloc, OFFER)?))?;
+    let kept = with(kept, 2, Keep::Router(Boxed::new(alloc, caps(alloc)?)?))?;
+    let kept = with(kept, 9, Keep::Router(Boxed::new(alloc, caps(alloc)?)?))?;
+    let opus = offer(alloc, 6, Media::Audio, OFFER)?;
+    let kept = with(kept, 6, Keep::Producer(Boxed::new(alloc, opus)?))?;
+    let video = offer(alloc, 7, Media::Video, TWO)?;
+    let kept = with(kept, 7, Keep::Producer(Boxed::new(alloc, video)?))?;
+    let received = params(alloc, OFFER)?;
+    let kept = with(kept, 8, Keep::Consumer(Boxed::new(alloc, received)?))?;
     let kept = with(kept, 5, Keep::Pipe(false))?;
     with(kept, 14, Keep::Pipe(true))
 }

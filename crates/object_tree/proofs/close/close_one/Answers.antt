@@ -1,4 +1,4 @@
-use Rattle.std.proofs.Common.{◌≡◌, sym, ◌∙◌}
+use Rattle.std.proofs.Common.{◌≡◌, sym, ap, ◌∙◌}
 use Rattle.std.specs.Map.{values_of}
 use Rattle.object_tree.specs.declared.object.Object.{Object}
 use Rattle.object_tree.specs.Falls.{closed_by, reason_of}
@@ -24,9 +24,10 @@ returns-in-Some-get_mut-clause-keyed c =
     let es = c.args.objects.now.entries in
     let r = reason_of (values_of es) c.args.fallen.now c.args.roots.now c.args.reason in
     let o : Object = c.in-Some-get_mut.object.now in
-    let w : Object = closed_by c.reason_of-why.result o in
-    let was : o ≡ c.in-Some.object.now = same-found o c.in-Some.object.now _ c.in-Some-get_mut.ensures.value c.in-Some.ensures.value in
-    let is : w ≡ close_open r o = closes r c.reason_of-why.result o c.in-Some.object.now was (sym c.is_some.ensures ∙ c.if-is_some.false) c.reason_of-why.ensures in
+    let lent : Object = c.deref_mut.result.now in
+    let w : Object = closed_by c.reason_of-why.result lent in
+    let was : lent ≡ c.in-Some.object.now = c.deref_mut.ensures.shows ∙ same-found o c.in-Some.object.now _ c.in-Some-get_mut.ensures.value c.in-Some.ensures.value in
+    let is : w ≡ close_open r o = closes r c.reason_of-why.result lent c.in-Some.object.now was (sym c.is_some.ensures ∙ c.if-is_some.false) c.reason_of-why.ensures ∙ ap (close_open r) c.deref_mut.ensures.shows in
     keyed-changed (close_open r) (close-serial r) c.args.serial es (c.get_mut.follows.lender w).entries o w c.requires.keyed c.requires.in_order c.in-Some-get_mut.ensures.value is
     (c.get_mut.follows.holds w).0
 
@@ -35,8 +36,9 @@ returns-in-Some-get_mut-clause-values c =
     let es = c.args.objects.now.entries in
     let r = reason_of (values_of es) c.args.fallen.now c.args.roots.now c.args.reason in
     let o : Object = c.in-Some-get_mut.object.now in
-    let w : Object = closed_by c.reason_of-why.result o in
-    let was : o ≡ c.in-Some.object.now = same-found o c.in-Some.object.now _ c.in-Some-get_mut.ensures.value c.in-Some.ensures.value in
-    let is : w ≡ close_open r o = closes r c.reason_of-why.result o c.in-Some.object.now was (sym c.is_some.ensures ∙ c.if-is_some.false) c.reason_of-why.ensures in
+    let lent : Object = c.deref_mut.result.now in
+    let w : Object = closed_by c.reason_of-why.result lent in
+    let was : lent ≡ c.in-Some.object.now = c.deref_mut.ensures.shows ∙ same-found o c.in-Some.object.now _ c.in-Some-get_mut.ensures.value c.in-Some.ensures.value in
+    let is : w ≡ close_open r o = closes r c.reason_of-why.result lent c.in-Some.object.now was (sym c.is_some.ensures ∙ c.if-is_some.false) c.reason_of-why.ensures ∙ ap (close_open r) c.deref_mut.ensures.shows in
     values-changed (close_open r) (close-serial r) c.args.serial es (c.get_mut.follows.lender w).entries o w c.requires.keyed c.requires.in_order c.in-Some-get_mut.ensures.value is
     (c.get_mut.follows.holds w).0

@@ -4,9 +4,9 @@ use Rattle.object_tree.specs.Tables.{has_end, may_be_linked}
 use Rattle.object_tree.proofs.ChangeLemmas.{none-there, numbered-at, other-there}
 use Rattle.object_tree.proofs.filing.turn_end.Goals as goal
 
-pub returns-in_default-get-clause-here : goal.returns-in_default-get-clause-here
-returns-in_default-get-clause-here c = λ o e linked.
-    absurd (none-there c.args.serial c.args.objects.now.entries o c.requires.keyed c.in_default-get.ensures.value e)
+pub returns-in_default-object_at-clause-here : goal.returns-in_default-object_at-clause-here
+returns-in_default-object_at-clause-here c = λ o e linked.
+    absurd (none-there c.args.serial c.args.objects.now.entries o c.requires.keyed c.in_default-object_at.ensures.value e)
 
 pub turn-requires : goal.turn-requires
 turn-requires c =

@@ -7,12 +7,12 @@ use Rattle.object_tree.proofs.tree.set_mark.Goals as goal
 pub returns-in-Some-clause-keyed : goal.returns-in-Some-clause-keyed
 returns-in-Some-clause-keyed c =
     keyed-changed (marked c.args.mark) (marked-serial c.args.mark) c.args.serial c.args.objects.now.entries (c.get_mut.follows.lender c.set.new.self).entries c.in-Some.object.now
-    c.set.new.self c.requires.keyed c.requires.in_order c.in-Some.ensures.value c.set.ensures (c.get_mut.follows.holds c.set.new.self).0
+    c.set.new.self c.requires.keyed c.requires.in_order c.in-Some.ensures.value (c.set.ensures ∙ ap (marked c.args.mark) c.deref_mut.ensures.shows) (c.get_mut.follows.holds c.set.new.self).0
 
 pub returns-in-Some-clause-values : goal.returns-in-Some-clause-values
 returns-in-Some-clause-values c =
     values-changed (marked c.args.mark) (marked-serial c.args.mark) c.args.serial c.args.objects.now.entries (c.get_mut.follows.lender c.set.new.self).entries c.in-Some.object.now
-    c.set.new.self c.requires.keyed c.requires.in_order c.in-Some.ensures.value c.set.ensures (c.get_mut.follows.holds c.set.new.self).0
+    c.set.new.self c.requires.keyed c.requires.in_order c.in-Some.ensures.value (c.set.ensures ∙ ap (marked c.args.mark) c.deref_mut.ensures.shows) (c.get_mut.follows.holds c.set.new.self).0
 
 pub returns-in_default-clause-values : goal.returns-in_default-clause-values
 returns-in_default-clause-values c =

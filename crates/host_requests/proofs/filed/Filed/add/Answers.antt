@@ -1,4 +1,5 @@
-use Rattle.std.proofs.Common.{[], ◌∷◌, ◌++◌, subst, sym, ap, ◌∙◌}
+use Rattle.std.proofs.Common.{[], ◌∷◌, ◌++◌, nat_cmp, subst, sym, ap, ◌∙◌}
+use Rattle.std.specs.BTreeMap.{insert_entry}
 use Rattle.host_requests.specs.Kept.{outlines}
 use Rattle.host_requests.specs.Places.{IsNext, Outline}
 use Rattle.host_requests.proofs.FiledLemmas.{filed-added, filed-entries, filed-restored}
@@ -8,13 +9,13 @@ use Rattle.host_requests.proofs.filed.Filed.add.Goals as goal
 pub invariant_of-self-in-Ok : goal.invariant_of-self-in-Ok
 invariant_of-self-in-Ok g c =
     let next = subst (λ es. IsNext c.args.number c.args.request.via (outlines es)) (sym c.self.view_is) c.requires in
-    filed-added c.args.number c.args.request c.self.inside.requests.entries c.insert.new.self.entries next c.in-Ok.ensures.entries c.add.new.self c.insert.ensures.ordered
+    filed-added c.args.number c.args.request c.self.inside.requests.entries c.insert.new.self.entries next (c.in-Ok.ensures.entries ∙ ap (insert_entry nat_cmp c.self.inside.requests.entries c.args.number) c.in_ok-request.ensures) c.add.new.self c.insert.ensures.ordered
     (c.in_ok-add.ensures.ok (outlines c.self.inside.requests.entries) c.self.invariant.placed next)
 
 pub returns-in-Ok-clause-ok : goal.returns-in-Ok-clause-ok
 returns-in-Ok-clause-ok g c =
     let next = subst (λ es. IsNext c.args.number c.args.request.via (outlines es)) (sym c.self.view_is) c.requires in
-    filed-entries c.args.number c.args.request c.self.inside.requests.entries c.insert.new.self.entries next c.in-Ok.ensures.entries
+    filed-entries c.args.number c.args.request c.self.inside.requests.entries c.insert.new.self.entries next (c.in-Ok.ensures.entries ∙ ap (insert_entry nat_cmp c.self.inside.requests.entries c.args.number) c.in_ok-request.ensures)
     ∙ ap (λ es. es ++ (c.args.number, c.args.request) ∷ []) c.self.view_is
 
 pub invariant_of-self-in-Err : goal.invariant_of-self-in-Err

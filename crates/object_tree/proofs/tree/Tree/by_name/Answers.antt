@@ -10,7 +10,7 @@ pub returns : goal.returns
 returns c =
     let es = c.self.inside.objects.entries in
     let serial = c.in_ok-serial.serial in
-    c.get-2.ensures.value
+    c.object_at.ensures.value
     ∙ (lookup-numbered serial es c.self.invariant.keyed
     ∙ (named-at (values_of es) c.args.name.now serial c.self.invariant.rising
     (sym c.in_ok-serial.was ∙ (c.get.ensures ∙ (ap (serial_of c.self.inside.names) c.as_slice.ensures.value ∙ c.self.invariant.serials c.args.name.now)))
