@@ -1,4 +1,3 @@
-pub mod AmongLemmas
 pub mod AnswerLemmas
 pub mod CallLemmas
 pub mod Counts

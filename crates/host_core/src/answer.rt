@@ -161,7 +161,12 @@ fn place(tables: &Tables, under: Serial, request: Request) -> Result<Placed, NoM
             outcome: Outcome::TooBig,
         });
     }
-    Ok(Placed::Issues { channel, payload })
+    // The payload stays with the notes, so it is kept in no more room than it takes.
+    let kept = payload.copy(tables.alloc)?;
+    Ok(Placed::Issues {
+        channel,
+        payload: kept,
+    })
 }
 
 // The channel of the worker that the object of a serial lives in, while that is up.

@@ -11,11 +11,11 @@ ghost use Rattle.host_model.specs.Falls.{close_sent, closes_sent, fallen, is_kno
 ghost use Rattle.host_tables.specs.Kept.{Moves, ShowsTheSame};
 ghost use Rattle.host_core.specs.Closes.{close_in};
 
-use crate::among::Among;
 use channel_msgs::{Ids, Request, write_request};
 use host_model::Due;
 use host_tables::Tables;
 use ms_base::{Bytes, Id, NoMemory, Reason, Serial, Text, WorkerKey};
+use object_tree::Among;
 use pending_calls::Owner;
 use request_build::build_close;
 use request_contents::{ids_of, method_of};

@@ -1,7 +1,6 @@
 //! The host of a media server as a pure core: it hears one entry at a time, and notes what follows.
 #![tactic(auto)]
 
-mod among;
 mod answer;
 mod calls;
 mod fall;

@@ -1,4 +1,4 @@
-use Rattle.std.proofs.Common.{◌≡◌, ◌≤◌, ◌<◌, ◌+◌, ℕ, length, arith, rules, sym, ap, ◌∙◌}
+use Rattle.std.proofs.Common.{◌≡◌, ◌≤◌, ◌<◌, ◌+◌, ℕ, List, length, arith, rules, subst, sym, ap, ◌∙◌}
 use Rattle.std.proofs.lemmas.Grind.{common_steps}
 use Rattle.channel_frames.specs.Frames.{max_payload}
 use Rattle.channel_msgs.specs.View.{RequestView, request_view}
@@ -31,4 +31,6 @@ returns-clause-placed c = λ s r k e view whole.
     let number : c.in-Some-checked_add.id ≡ last + 1 = first_of (search rules, grind (arith, common_steps)) in
     let text = c.in_ok-payload.ensures.text (whole-request r v view whole) ∙ text-request r v c.in-Some-checked_add.id view ∙ ap (asked_payload r) number in
     let short : length c.in_ok-payload.payload ≤ max_payload = first_of (search rules, grind (arith, common_steps)) in
-    placed-there s c.args.tables.now k r c.args.under e c.in-Some.channel (sym c.in-Some.is ∙ c.channel_above.ensures) left c.in_ok-payload.payload text short
+    let same : c.in_ok-kept.kept ≡ c.in_ok-payload.payload = c.in_ok-kept.ensures in
+    let fits : length c.in_ok-kept.kept ≤ max_payload = subst (λ (p : List ℕ). length p ≤ max_payload) (sym same) short in
+    placed-there s c.args.tables.now k r c.args.under e c.in-Some.channel (sym c.in-Some.is ∙ c.channel_above.ensures) left c.in_ok-kept.kept (same ∙ text) fits
