@@ -5,6 +5,8 @@
 #include <stdbool.h>
 #include <stdio.h>
 #include <stdlib.h>
+#include <sys/syscall.h>
+#include <unistd.h>
 
 void *__libc_malloc(size_t size);
 void *__libc_realloc(void *old, size_t size);
@@ -27,6 +29,12 @@ __attribute__((destructor)) static void end(void) {
         fprintf(told, "%lu\n", total);
         fclose(told);
     }
+}
+
+// A program may end by this call, behind which no destructor runs.
+void _exit(int status) {
+    end();
+    for (;;) syscall(SYS_exit_group, status);
 }
 
 static bool fails(void) {

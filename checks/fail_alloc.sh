@@ -24,6 +24,8 @@ wrong=0
 # the bytes of "no more told", which stand for what an object in memory tells no more.
 wanted_form='NoMemory|AllocError|AllocFailed|Status\(9\)|out of memory|left: \[109, 101, 109, 111, 114, 121\]'
 untold_form='left: \[110, 111, 32, 109, 111, 114, 101, 32, 116, 111, 108, 100\]'
+# The lines of a story begin with "another status" where its replay didn't end with 0.
+status_form='left: \[97, 110, 111, 116, 104, 101, 114, 32, 115, 116, 97, 116, 117, 115, 10\]'
 
 # with NUMBER COMMAND..: the command, with that allocation failing. The number of all is in
 # $work/total then.
@@ -46,8 +48,9 @@ tests() {
         exit 1
     }
     for name in $("$out/$1_tests" --list | sed -n 's/: test$//p'); do
+        rm -f "$work/total"
         with 0 "$out/$1_tests" "$name" >/dev/null 2>&1
-        total=$(cat "$work/total")
+        total=$(cat "$work/total") || exit 1
         passed=0 wanted=0
         : >"$work/others"
         number=1
@@ -56,7 +59,7 @@ tests() {
             status=$?
             if [ "$status" = 0 ]; then
                 passed=$((passed + 1))
-            elif grep -qE "$wanted_form|$untold_form" "$work/told"; then
+            elif grep -qE "$wanted_form|$untold_form|$status_form" "$work/told"; then
                 wanted=$((wanted + 1))
             else
                 told=$(tr -s '\n' ' ' <"$work/told")
@@ -98,9 +101,10 @@ summed() {
 # allocations JOURNAL: the program on it, with each allocation failing by itself and with all later
 # ones.
 allocations() {
+    rm -f "$work/total"
     with 0 "$program" replay <"$1" >"$work/transcript"
     ample=$?
-    total=$(cat "$work/total")
+    total=$(cat "$work/total") || exit 1
     whole=0 wanted=0 number=1
     while [ "$number" -le "$total" ]; do
         with "$number" "$program" replay <"$1" >"$work/got"
