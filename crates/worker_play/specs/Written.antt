@@ -6,6 +6,8 @@ use Rattle.ms_base.specs.Words.{space, line_feed, spaced}
 use Rattle.ms_devices.specs.declared.events.MemEvent.{MemEvent}
 use Rattle.ms_devices.specs.declared.events.OutCall.{OutCall}
 use Rattle.ms_devices.specs.declared.events.OutCall.TheVariants as call
+use Rattle.worker_serve.specs.Serving.{WorkerOutside}
+use Rattle.run_top.specs.Worker.{IsWorker}
 use Rattle.worker_play.specs.Reading.{lines, HasLines}
 
 -- an address by its four octets
@@ -37,11 +39,18 @@ call_line one = call_words one ++ line_feed ∷ []
 abbrev pub played : List OutCall → ℕ → List ℕ
 played calls status = flat_map call_line calls ++ codes "status" ++ spaced status ++ line_feed ∷ []
 
--- what is written of a text: the calls and the status of a run that has what the text says
+-- What is written of a text that can be read: the calls and the status of a worker to which nothing had been given, and which had made
+-- no call. They are its output for what it was given; that this is what the text says isn't told by them.
 pub record IsPlayed (text written : List ℕ) : Type 0 where
   pub answers : List (Option ℕ)
   pub events : List MemEvent
   pub calls : List OutCall
   pub status : ℕ
+  pub before : WorkerOutside
+  pub now : WorkerOutside
   pub has_lines : HasLines (lines text) answers events
+  pub nothing_given : before.given ≡ Some []
+  pub nothing_called : before.calls ≡ Some []
+  pub told : now.calls ≡ Some calls
+  pub is_worker : IsWorker status before now
   pub lines_of_calls : written ≡ played calls status
