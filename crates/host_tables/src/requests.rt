@@ -52,7 +52,7 @@ impl Tables {
         let Due::Opens { object, keeps } = due else {
             return Ok(());
         };
-        self.kept.names.add(self.alloc, &object.name)?;
+        self.kept.names.add(&object.name)?;
         self.expect_id(keeps)?;
         self.awaits.touch(&object.name)?;
         Ok(())

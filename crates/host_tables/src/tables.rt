@@ -120,7 +120,7 @@ impl Tables {
         ensures tree { self.new.tree ≡ self.old.tree }
         ensures shown { ShowsTheSame self.old self.new }
     {
-        self.failed.add(self.alloc, name)?;
+        self.failed.add(name)?;
         self.awaits.touch(name)?;
         Ok(())
     }

@@ -8,6 +8,7 @@ use std::collections::BTreeMap;
 /// Names, each as often as it was added and not yet removed. Contracts see how often each is there.
 #[derive(Debug, Drop)]
 pub struct Names {
+    alloc: Global,
     // none is 0
     counts: BTreeMap<String, u64>,
 }
@@ -18,6 +19,7 @@ impl Names {
         ensures { (name : List ℕ) → times_named result name ≡ 0 }
     {
         Names {
+            alloc,
             counts: BTreeMap::new(alloc),
         }
     }
@@ -37,14 +39,14 @@ impl Names {
     }
 
     /// Adds a name once more. `NoMemory` also comes where it is there 2^64 - 1 times.
-    pub fn add(&mut self, alloc: Global, name: &Name) -> Result<(), NoMemory>
+    pub fn add(&mut self, name: &Name) -> Result<(), NoMemory>
         ensures ok { OnOk result ((other : List ℕ) → times_named self.new other ≡ times_named self.old other + one_if (bytes_eq name.now other)) }
         ensures err { OnErr result ((other : List ℕ) → times_named self.new other ≡ times_named self.old other) }
     {
         let Some(times) = self.times(name).checked_add(1) else {
             return Err(NoMemory);
         };
-        let name = String::from_str(alloc, name.as_str())?;
+        let name = String::from_str(self.alloc, name.as_str())?;
         self.counts.insert(name, times)?;
         Ok(())
     }

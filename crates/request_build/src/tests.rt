@@ -31,7 +31,7 @@ fn what_is_pending_is_counted(rt: HostRuntime) -> Result<(), Fail> {
     let (twice, once) = (name(a, "twice")?, name(a, "once")?);
     let mut names = Names::new(a);
     for added in [&twice, &once, &twice] {
-        names.add(a, added)?;
+        names.add(added)?;
     }
     names.remove(&twice);
     names.remove(&once);

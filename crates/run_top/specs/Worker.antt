@@ -22,7 +22,7 @@ pub record IsWorker (status : ℕ) (before now : WorkerOutside) : Type 0 where
   -- one of these statuses comes
   pub statuses : IsTrue (is_worker_status status)
   pub done : status ≡ DONE.0 → Since IsToTheEnd IsOutput before now
-  -- the channel's stream is broken: this status comes exactly there, since at no other one is it
+  -- the channel's stream is broken; at its end and where a read failed it isn't, and where a write failed or memory ran out it may be
   pub broken : status ≡ BAD_TEXT.0 → Since IsToABreak IsOutput before now
   pub read_failed : status ≡ READ_FAILED.0 → Since IsUnbroken IsOutput before now
   pub read_rose : status ≡ READ_FAILED.0 → Rose before.read_faults now.read_faults

@@ -78,7 +78,7 @@ fn read_lanes(alloc: Global, text: &[u8]) -> Result<Lanes, ScriptFault>
             Err(WordFault::NoMemory) => return Err(ScriptFault::NoMemory),
         };
         workers += worker_lines(&row);
-        lanes.add(alloc, row)?;
+        lanes.add(row)?;
         let Some(next) = behind else {
             return Ok(lanes);
         };

@@ -45,6 +45,7 @@ impl Model for Steps {
 /// The lanes, in order. Contracts see them as the list of the lists of their steps.
 #[derive(Debug, Drop)]
 pub struct Lanes {
+    alloc: Global,
     items: Vec<Steps>,
 }
 
@@ -90,6 +91,7 @@ impl Lanes {
         ensures { result ≡ [] }
     {
         Lanes {
+            alloc,
             items: Vec::new(alloc),
         }
     }
@@ -111,13 +113,13 @@ impl Lanes {
     }
 
     /// Adds what a line is: a lane, or a step of the last lane.
-    pub(crate) fn add(&mut self, alloc: Global, row: Row) -> Result<(), NoMemory>
+    pub(crate) fn add(&mut self, row: Row) -> Result<(), NoMemory>
         ensures ok { OnOk result (self.new ≡ with_row self.old row) }
         ensures err { OnErr result (self.new ≡ self.old) }
     {
         match row {
             Row::Skip => Ok(()),
-            Row::Lane => self.push(Steps::new(alloc)),
+            Row::Lane => self.push(Steps::new(self.alloc)),
             Row::Step(step) => self.push_step(step),
         }
     }

@@ -46,6 +46,7 @@ impl Event {
 /// Acts in their order, of which what is said is short.
 #[derive(Debug, Drop)]
 pub(crate) struct Acts {
+    alloc: Global,
     acts: Vec<Act>,
 }
 
@@ -67,6 +68,7 @@ impl Acts {
         ensures { result ≡ [] }
     {
         Acts {
+            alloc,
             acts: Vec::new(alloc),
         }
     }
@@ -98,34 +100,28 @@ impl Acts {
     /// The reply to the request of this id.
     pub(crate) fn answer(
         &mut self,
-        alloc: Global,
         request: u32,
         answer: Result<Accepted, Refusal>,
     ) -> Result<(), NoMemory>
         ensures { OnOk result (self.new ≡ self.old ++ say (answer_payload request answer) ∷ []) }
     {
-        let payload = write_answer(alloc, request, answer)?;
+        let payload = write_answer(self.alloc, request, answer)?;
         self.say(payload)
     }
 
-    fn notify(&mut self, alloc: Global, notice: WorkerNotice) -> Result<(), NoMemory>
+    fn notify(&mut self, notice: WorkerNotice) -> Result<(), NoMemory>
         ensures { OnOk result (self.new ≡ self.old ++ notify notice ∷ []) }
     {
-        let payload = write_worker_notice(alloc, notice)?;
+        let payload = write_worker_notice(self.alloc, notice)?;
         self.say(payload)
     }
 
     /// Each of these Consumers is told of its Producer.
-    pub(crate) fn tell(
-        &mut self,
-        alloc: Global,
-        event: Event,
-        consumers: &[Id],
-    ) -> Result<(), NoMemory>
+    pub(crate) fn tell(&mut self, event: Event, consumers: &[Id]) -> Result<(), NoMemory>
         ensures { OnOk result (self.new ≡ self.old ++ map (λ c. notify (event_notice event c)) consumers.now) }
     {
         for consumer in consumers {
-            self.notify(alloc, event.notice(*consumer))?;
+            self.notify(event.notice(*consumer))?;
         }
         Ok(())
     }

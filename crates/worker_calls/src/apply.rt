@@ -21,12 +21,12 @@ impl Worker {
     {
         match change {
             Change::Nothing => Ok(()),
-            Change::AddRouter(id) => self.routers.add(self.alloc, id),
+            Change::AddRouter(id) => self.routers.add(id),
             Change::RemoveRouter(id) => {
                 self.remove_router(id);
                 Ok(())
             }
-            Change::InRouter(id, change) => self.routers.change(self.alloc, id, change),
+            Change::InRouter(id, change) => self.routers.change(id, change),
             Change::Wait(waiting) => {
                 self.binds = waiting.link();
                 self.waiting = Some(waiting);
@@ -61,7 +61,7 @@ impl Worker {
     {
         let change = RouterChange::AddTransport(place.transport, transport);
         self.links.reserve()?;
-        self.routers.change(self.alloc, place.router, change)?;
+        self.routers.change(place.router, change)?;
         self.links.add(link, place);
         self.waiting = None;
         Ok(())
@@ -78,7 +78,7 @@ impl Worker {
     {
         let change = RouterChange::AddProducer(ids, producer);
         self.directs.reserve()?;
-        self.routers.change(self.alloc, ids.router, change)?;
+        self.routers.change(ids.router, change)?;
         if direct {
             self.directs.add(ids.router, ids.producer);
         }
@@ -90,7 +90,7 @@ impl Worker {
         ensures err { OnErr result (self.new ≡ self.old) }
     {
         let change = RouterChange::RemoveTransport(ids.transport);
-        self.routers.change(self.alloc, ids.router, change)?;
+        self.routers.change(ids.router, change)?;
         self.links.remove(Span::Transport(Place::new(ids)));
         self.directs.keep_standing(&self.routers);
         Ok(())
@@ -101,7 +101,7 @@ impl Worker {
         ensures err { OnErr result (self.new ≡ self.old) }
     {
         let change = RouterChange::RemoveProducer(ids.producer);
-        self.routers.change(self.alloc, ids.router, change)?;
+        self.routers.change(ids.router, change)?;
         self.directs.keep_standing(&self.routers);
         Ok(())
     }

@@ -49,7 +49,7 @@ impl Worker {
                 acts,
             });
         };
-        acts.answer(self.alloc, waiting.request(), waiting.answer(port))?;
+        acts.answer(waiting.request(), waiting.answer(port))?;
         let change = match port {
             Some(_) => waiting.stand(),
             None => Change::Forget,
@@ -62,7 +62,7 @@ impl Worker {
         ensures { IfOk result (λ p. IsPlan p self.now request (Err why)) }
     {
         let mut acts = Acts::new(self.alloc);
-        acts.answer(self.alloc, request, Err(why))?;
+        acts.answer(request, Err(why))?;
         Ok(Plan {
             change: Change::Nothing,
             acts,
@@ -111,7 +111,7 @@ impl Worker {
         requires { IsPossible change self.now }
         ensures { Plans result self.now request (Ok (record { worker = changed change self.now; acts = acts; reply = Some told })) }
     {
-        acts.answer(self.alloc, request, Ok(told))?;
+        acts.answer(request, Ok(told))?;
         Ok(Plan { change, acts })
     }
 

@@ -52,7 +52,7 @@ impl Worker {
         let router = self.standing_producer(ids)?;
         let told = told_by_producer(router, ids.producer)?;
         let mut acts = Acts::new(self.alloc);
-        acts.tell(self.alloc, Event::Closed, told.as_slice())?;
+        acts.tell(Event::Closed, told.as_slice())?;
         self.accept(request, acts, Change::RemoveProducer(ids), Accepted::Done)
     }
 
@@ -154,7 +154,7 @@ fn pause_acts(
     let mut acts = Acts::new(alloc);
     if was_paused != paused {
         let told = told_by_producer(router, id)?;
-        acts.tell(alloc, Event::paused(paused), told.as_slice())?;
+        acts.tell(Event::paused(paused), told.as_slice())?;
     }
     Ok(acts)
 }

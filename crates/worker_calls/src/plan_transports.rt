@@ -82,7 +82,7 @@ impl Worker {
         let router = self.standing_transport(ids)?;
         let told = told_by_transport(router, ids.transport)?;
         let mut acts = Acts::new(self.alloc);
-        acts.tell(self.alloc, Event::Closed, told.as_slice())?;
+        acts.tell(Event::Closed, told.as_slice())?;
         self.links
             .shut(Span::Transport(Place::new(ids)), &mut acts)?;
         self.accept(request, acts, Change::RemoveTransport(ids), Accepted::Done)

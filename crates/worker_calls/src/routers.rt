@@ -20,6 +20,7 @@ use worker_router::WorkerRouter;
 /// Routers of different ids, in order of making, found by their ids.
 #[derive(Debug, Drop)]
 pub(crate) struct Routers {
+    alloc: Global,
     routers: IndexMap<[u8; 16], WorkerRouter>,
     /// Where the Router stands that was lent last, as far as is known.
     lent: usize,
@@ -40,6 +41,7 @@ impl Routers {
         ensures { result ≡ [] }
     {
         Routers {
+            alloc,
             routers: IndexMap::new(alloc),
             lent: 0,
         }
@@ -95,12 +97,12 @@ impl Routers {
     }
 
     /// Adds a Router of another id than theirs.
-    pub(crate) fn add(&mut self, alloc: Global, id: Id) -> Result<(), NoMemory>
+    pub(crate) fn add(&mut self, id: Id) -> Result<(), NoMemory>
         requires { is_some (find (λ r. same_id r.id id) self.old) ≡ false }
         ensures ok { OnOk result (self.new ≡ self.old ++ record { id = id; router = nothing_yet } ∷ []) }
         ensures err { OnErr result (self.new ≡ self.old) }
     {
-        self.routers.insert(id.0, WorkerRouter::new(alloc))?;
+        self.routers.insert(id.0, WorkerRouter::new(self.alloc))?;
         Ok(())
     }
 
@@ -112,18 +114,13 @@ impl Routers {
     }
 
     /// Changes the Router of this id, where it is there.
-    pub(crate) fn change(
-        &mut self,
-        alloc: Global,
-        id: Id,
-        change: RouterChange,
-    ) -> Result<(), NoMemory>
+    pub(crate) fn change(&mut self, id: Id, change: RouterChange) -> Result<(), NoMemory>
         ensures ok { OnOk result (self.new ≡ change_in id (changed_router change) self.old) }
         ensures err { OnErr result (self.new ≡ self.old) }
     {
         let Some(router) = self.routers.get_mut(&id.0) else {
             return Ok(());
         };
-        change_router(alloc, router, change)
+        change_router(self.alloc, router, change)
     }
 }

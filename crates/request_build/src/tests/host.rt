@@ -172,8 +172,8 @@ fn nothing_kept(alloc: Global, slots: u32, stopped: bool) -> Result<Kept, Fail>
 {
     what_is_kept_has_few_encodings();
     let mut kept = Kept::new(alloc);
-    kept.names.add(alloc, &name(alloc, "soon")?)?;
-    kept.names.add(alloc, &name(alloc, "k_c")?)?;
+    kept.names.add(&name(alloc, "soon")?)?;
+    kept.names.add(&name(alloc, "k_c")?)?;
     kept.producer_ids.add(Serial(2), Id::of(SEED, 77))?;
     kept.slots = slots;
     kept.stopped = stopped;
