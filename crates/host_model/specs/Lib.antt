@@ -1,10 +1,12 @@
 pub mod Answer
 pub mod Changes
+pub mod ChannelRows
 pub mod Drawn
 pub mod Falls
 pub mod Fit
 pub mod Held
 pub mod Laws
+pub mod RefusalRows
 pub mod Rows
 pub mod Run
 pub mod Settled

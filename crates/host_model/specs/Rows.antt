@@ -9,6 +9,7 @@ use Rattle.ms_base.specs.declared.entry.Entry.{Entry}
 use Rattle.ms_base.specs.declared.entry.Entry.TheVariants as entry
 use Rattle.ms_base.specs.declared.keys.Event.TheVariants as event
 use Rattle.ms_base.specs.declared.keys.WorkerKey.{WorkerKey}
+use Rattle.ms_base.specs.declared.op.Op.{Op}
 use Rattle.ms_base.specs.declared.op.Op.TheVariants as op
 use Rattle.call_options.specs.Options.{router_in}
 use Rattle.channel_frames.specs.Frames.{frame, frames_within, rest_within}
@@ -38,18 +39,25 @@ lines entries = transcript_of (record { seed = 7; entries = entries })
 abbrev pub behind : List Entry → List Entry → List ℕ
 behind entries more = drop (length (lines entries)) (lines (entries ++ more))
 
--- a Worker is made, started and says that it is running; and a Router is made on it
-abbrev pub a_router : List Entry
-a_router =
-    entry.Call 1 (op.Worker (codes "w") 0)
-    ∷ entry.Spawned first true
-    ∷ says (codes "{\"event\":\"running\",\"targetId\":\"worker\"}")
-    ∷ entry.Call 1 (op.Router (codes "r") (codes "w") (codes "{\"mediaCodecs\":[]}"))
-    ∷ says (codes "{\"accepted\":true,\"id\":1}")
-    ∷ []
+abbrev pub running : List ℕ
+running = codes "{\"event\":\"running\",\"targetId\":\"worker\"}"
 
-pub a_router_is_made : lines a_router
-    ≡ codes "open 1 worker w 00000000-0000-4007-8000-000000000001\nspawn 1 1\nup 1 1\nrunning w 1\nsettled 1 1 ok\nsent 1 1 {\"id\":1,\"internal\":{\"routerId\":\"00000000-0000-4007-8000-000000000002\"},\"method\":\"worker.createRouter\"}\nopen 2 router r 00000000-0000-4007-8000-000000000002\nsettled 1 2 ok\n"
+-- the call for a Router without codecs
+abbrev pub router_of : List ℕ → List ℕ → Op
+router_of name worker = op.Router name worker (codes "{\"mediaCodecs\":[]}")
+
+-- a Worker is made, started and says that it is running
+abbrev pub a_worker : List Entry
+a_worker = entry.Call 1 (op.Worker (codes "w") 0) ∷ entry.Spawned first true ∷ says running ∷ []
+
+-- and a Router is made on it
+abbrev pub a_router : List Entry
+a_router = a_worker ++ entry.Call 1 (router_of (codes "r") (codes "w")) ∷ says (codes "{\"accepted\":true,\"id\":1}") ∷ []
+
+abbrev pub a_router_lines : List ℕ
+a_router_lines = codes "open 1 worker w 00000000-0000-4007-8000-000000000001\nspawn 1 1\nup 1 1\nrunning w 1\nsettled 1 1 ok\nsent 1 1 {\"id\":1,\"internal\":{\"routerId\":\"00000000-0000-4007-8000-000000000002\"},\"method\":\"worker.createRouter\"}\nopen 2 router r 00000000-0000-4007-8000-000000000002\nsettled 1 2 ok\n"
+
+pub a_router_is_made : lines a_router ≡ a_router_lines
 unfolding digits frames_within rest_within message_of packet_in id_bytes id_text chars encode_utf8 is_utf8 serde_json_on_literals router_in caps_in codec_in mime_type_in number_of with_codec supported_codecs
 a_router_is_made = refl
 

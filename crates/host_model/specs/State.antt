@@ -1,4 +1,4 @@
--- What the host knows: plain lists, of which nothing is taken out. This project's own, after mediasoup's objects.
+-- What the host knows: plain lists, of which nothing is taken out but an await that settles and what is kept of an object that closes. This project's own, after mediasoup's objects.
 use Rattle.std.specs.Prelude.{ℕ, ◌+◌, List, [], ◌∷◌, ◌++◌, map, find, count_by, Bool, true, false, not, ◌&&◌, ◌||◌, ◌==◌, is_some, if◌then◌else◌, Option, Some, None, option_map, bytes_eq}
 use Rattle.std.specs.List.{list_any}
 use Rattle.ms_base.specs.declared.id.Id.{Id}
