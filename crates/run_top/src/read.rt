@@ -47,10 +47,7 @@ pub(crate) fn zeroes(alloc: Global, count: usize) -> Result<Vec<u8>, ReadFault>
     ensures count { IfOk result (λ place. length place.items ≡ count) }
     ensures only { IfErr result (λ fault. fault ≡ ReadFault.NoMemory) }
 {
-    match vec![in alloc; 0u8; count] {
-        Ok(place) => Ok(place),
-        Err(_) => Err(ReadFault::NoMemory),
-    }
+    vec![in alloc; 0u8; count].map_err(|_why| ReadFault::NoMemory)
 }
 
 // Adds what the source holds to an empty text, piece by piece, until the text is longer than it may be.

@@ -11,9 +11,8 @@ ghost use Rattle.run_top.specs.Replay.{IsReplay, ReadsAs, Adds, AddsBehind, bad_
 use crate::apply::{StopFault, transcript};
 use crate::read::{ReadFault, read_text};
 use crate::status::Status;
-use itoa::Buffer;
 use journal_text::{JournalFault, read_journal};
-use ms_base::{Bytes, Code, Entry, NoMemory};
+use ms_base::{Bytes, Code, Entry, NoMemory, push_number, push_word};
 use ms_devices::{Sink, Source};
 use std::alloc::Global;
 
@@ -84,11 +83,9 @@ fn write_bad_line<K: Sink>(alloc: Global, sink: &mut K, line: u32, code: Code) -
 fn bad_line(alloc: Global, line: u32, code: Code) -> Result<Bytes, NoMemory>
     ensures { IfOk result (λ text. text ≡ told_words line code) }
 {
-    let mut buffer = Buffer::new();
-    let mut text = Bytes::from_slice(alloc, b"bad ")?;
-    text.extend_from_slice(buffer.format(line).as_bytes())?;
-    text.push(b' ')?;
-    text.extend_from_slice(code.word())?;
+    let mut text = Bytes::from_slice(alloc, b"bad")?;
+    push_number(u64::from(line), &mut text)?;
+    push_word(code.word(), &mut text)?;
     text.push(b'\n')?;
     Ok(text)
 }
