@@ -1,5 +1,5 @@
 #!/bin/sh
-# Shows what becomes of a want of memory. Each test of a crate, and the program on each journal in
+# Shows what becomes of a failed allocation. Each test of a crate, and the program on each journal in
 # examples/, runs with its first allocation failing, then with its second, and so on to its last.
 # A larger journal is replayed with less and less room.
 # - A test compares answers as they are with ample memory, so it may fail, but then it tells that
